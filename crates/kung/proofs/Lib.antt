@@ -1,0 +1,6 @@
+pub mod Finite
+pub mod Laws
+pub mod SetLaws
+pub mod Listed
+pub mod Places
+mod Cases

@@ -1,0 +1,21 @@
+-- `kung::preimage_of` meets its contract: the table has the preimage at its place. Assumes nothing.
+use mathlib.Core.Path.{_∙_, ap, ap₂}
+use lib.ListN.{getD}
+use Rattle.kung.proofs.Places.{preimage-at}
+use borrow.Author.Needs.{needs}
+use Rattle.kung.proofs.preimage_of.Statement.{statement}
+use Rattle.kung.proofs.preimage_of.Tie as tie
+
+place-requires : tie.Need-place-requires
+place-requires c κs = search needs
+
+element-copy-out-result : tie.Need-element-copy-out-result
+element-copy-out-result c = search needs
+
+returns : tie.Need-returns
+returns c =
+    ap₂ (λ t k. getD t k 0) (c .before .before .pre) (c .before .place .ensures)
+    ∙ preimage-at (c .before .before .args .operation) (c .before .before .args .p) (c .before .before .args .set) (search needs)
+
+pub preimage-of-spec : {M : Type 1} → statement M
+preimage-of-spec = tie.close (tie.spec place-requires element-copy-out-result returns)

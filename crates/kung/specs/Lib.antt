@@ -1,0 +1,5 @@
+pub mod Class
+pub mod Rule
+pub mod Operation
+pub mod Sets
+pub mod Tables

@@ -1,0 +1,47 @@
+-- The constant tables, each by its rule.
+use Prim.Native.Nat.{ℕ, zero, suc, _+_, _*_, _/_, _%_}
+use mathlib.Core.Bool.{Bool, true, false, cond}
+use mathlib.Core.List.{List, [], _∷_}
+use lib.Dec.{ltb}
+use Rattle.kung.specs.Class.{Class, code, classes, ofCode}
+use Rattle.kung.specs.Rule.{some, kindOf, gateClass}
+use Rattle.kung.specs.Operation.{Op, join, opAt}
+use Rattle.kung.specs.Sets.{setOf, has, image, members}
+
+-- f i, f (i + 1), and so on: n numbers
+unfoldable pub tab : (ℕ → ℕ) → ℕ → ℕ → List ℕ
+tab f i zero = []
+tab f i (suc n) = f i ∷ tab f (suc i) n
+
+-- Document 01, "CORE": "a constant table of 4,096 entries: AND or OR, eight classes p, 256 sets"
+unfoldable pub imageRule : ℕ → ℕ
+imageRule i = image (opAt (i / 2048)) (ofCode (i / 256)) (i % 256)
+
+-- an entry's place
+abbrev pub placeOf : (operation p set : ℕ) → ℕ
+placeOf operation p set = operation % 2 * 2048 + p % 8 * 256 + set
+
+unfoldable pub imageTable : List ℕ
+imageTable = tab imageRule 0 4096
+
+-- the classes that p joins into the set
+unfoldable pub preimage : Op → Class → ℕ → ℕ
+preimage o p m = setOf (λ k. has m (join o p k))
+
+-- the classes that some further class joins into the set
+unfoldable pub reach : Op → ℕ → ℕ
+reach o m = setOf (λ k. some (λ c. has m (join o k c)) classes)
+
+-- wanted sets: preimages as the images stand, then 512 entries of AND or OR and 256 sets
+unfoldable pub wantedRule : ℕ → ℕ
+wantedRule i = cond (ltb i 4096) (preimage (opAt (i / 2048)) (ofCode (i / 256)) (i % 256)) (reach (opAt (i / 256)) (i % 256))
+
+unfoldable pub wantedTable : List ℕ
+wantedTable = tab wantedRule 0 4608
+
+-- a gate's class by its kind and the set of its pins' classes: kinds 0 to 7, 256 sets
+unfoldable pub gateRule : ℕ → ℕ
+gateRule i = code (gateClass (kindOf (i / 256)) (members (i % 256)))
+
+unfoldable pub gateTable : List ℕ
+gateTable = tab gateRule 0 2048
