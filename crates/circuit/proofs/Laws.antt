@@ -3,7 +3,7 @@ use Prim.Native.Nat.{ℕ, zero, suc, _+_, _-_, _<_, _≤_}
 use native.Mathlib.Omega.{arith}
 use native.Mathlib.Nat.{add-sub-cancel-left}
 use native.Mathlib.Decide.{decLt}
-use mathlib.Core.Path.{_≡_, refl, sym, _∙_, ap, subst, subst₂}
+use mathlib.Core.Path.{_≡_, refl, sym, _∙_, ap, subst, subst₂, fun-ext}
 use mathlib.Core.Bool.{Bool, true, false, cond}
 use mathlib.Core.List.{List, [], _∷_, _++_, map}
 use lib.Dec.{ltb}
@@ -100,3 +100,11 @@ module _ {A : Type 0} (card : Card) (other : A) (v : ℕ → A) where
 
   pub sources-falling : WellFormed card → Falling (sources card other v)
   sources-falling formed = sources-cases (λ s c. Each (λ x. x < s) (pinsOf c)) (λ i h. tt) (λ g h. formed g h) (λ s h. tt)
+
+-- only the inputs' values matter
+pub sources-ext : {A : Type 0} (card : Card) (other : A) (v w : ℕ → A) → ((i : ℕ) → i < card .inputs → v i ≡ w i)
+    → sources card other v ≡ sources card other w
+sources-ext card other v w same =
+    fun-ext
+    (sources-cases card other v (λ s c. c ≡ sources card other w s) (λ i h. ap given (same i h) ∙ sym (sources-input card other w i h))
+    (λ g h. sym (sources-gate card other w g h)) (λ s h. sym (sources-above card other w s h)))

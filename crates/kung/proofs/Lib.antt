@@ -3,4 +3,3 @@ pub mod Laws
 pub mod SetLaws
 pub mod Listed
 pub mod Places
-mod Cases

@@ -1,8 +1,15 @@
 // The static library for loaders in C or Rust: include/lane.h documents each function.
 ghost use mathlib.Core.Path.{_≡_};
+ghost use mathlib.Core.List.{[], _∷_};
 ghost use Rattle.kung.specs.Class.{code, ofCode};
 ghost use Rattle.kung.specs.Rule.{invert};
 ghost use Rattle.kung.specs.Operation.{join, opAt};
+ghost use Rattle.netlist.specs.Netlist.{checked};
+ghost use Rattle.changes.specs.Refusals.{listChecked};
+ghost use Rattle.lanecard.specs.Answers.{netlistAnswer, listAnswer, Fulled};
+use changes::Listed;
+use netlist::Checked;
+use simulate::Simulated;
 
 #[no_mangle]
 pub extern "C" fn lane_join(operation: u8, a: u8, b: u8) -> u8
@@ -17,4 +24,81 @@ pub extern "C" fn lane_invert(a: u8) -> u8
     ensures { λ r. ⌜ r ≡ code (invert (ofCode a)) ⌝ }
 {
     kung::inverse(a)
+}
+
+// Writes the five words of an answer.
+fn put(answer: &mut [u64; 5], a: usize, b: usize, c: usize, d: usize, e: usize)
+    ensures { λ r. ⌜ now (answer .exit) ≡ a ∷ b ∷ c ∷ d ∷ e ∷ [] ⌝ }
+{
+    *answer = [a as u64, b as u64, c as u64, d as u64, e as u64];
+}
+
+// A refusal: its number, and its place in the answer.
+fn refuse(answer: &mut [u64; 5], number: u8, place: usize) -> u32
+    ensures { λ r. ⌜ (r ≡ number) × (now (answer .exit) ≡ place ∷ 0 ∷ 0 ∷ 0 ∷ 0 ∷ []) ⌝ }
+{
+    put(answer, place, 0, 0, 0, 0);
+    number as u32
+}
+
+#[no_mangle]
+pub extern "C" fn lane_netlist(netlist: &[u8], answer: &mut [u64; 5]) -> u32
+    ensures { λ r. ⌜ (r ≡ netlistAnswer (checked (now (netlist .entry))) .number) × (now (answer .exit) ≡ netlistAnswer (checked (now (netlist .entry))) .words) ⌝ }
+{
+    let checked = netlist::check(netlist);
+    match checked {
+        Checked::Refused(number, place) => refuse(answer, number, place),
+        Checked::Accepted {
+            inputs,
+            gates,
+            outputs,
+            pins,
+            entries,
+        } => {
+            put(answer, inputs, gates, outputs, pins, entries);
+            0
+        }
+    }
+}
+
+#[no_mangle]
+pub extern "C" fn lane_list(netlist: &[u8], list: &[u8], answer: &mut [u64; 5]) -> u32
+    ensures { λ r. ⌜ (r ≡ listAnswer (listChecked (now (netlist .entry)) (now (list .entry))) .number) × (now (answer .exit) ≡ listAnswer (listChecked (now (netlist .entry)) (now (list .entry))) .words) ⌝ }
+{
+    let listed = changes::check(netlist, list);
+    match listed {
+        Listed::Refused(number, place) => refuse(answer, number, place),
+        Listed::Accepted {
+            inputs: _,
+            gates: _,
+            outputs: _,
+            pins: _,
+            entries: _,
+            changes,
+            width,
+        } => {
+            put(answer, changes, width, 0, 0, 0);
+            0
+        }
+    }
+}
+
+#[no_mangle]
+pub extern "C" fn lane_full(
+    netlist: &[u8],
+    list: &[u8],
+    change: usize,
+    buffer: &mut [u8],
+    answer: &mut [u64; 5],
+) -> u32
+    ensures { λ r. ⌜ Fulled (now (netlist .entry)) (now (list .entry)) change (now (buffer .entry)) (now (buffer .exit)) r (now (answer .exit)) ⌝ }
+{
+    let simulated = simulate::full(netlist, list, change, buffer);
+    match simulated {
+        Simulated::Refused(number, place) => refuse(answer, number, place),
+        Simulated::Done => {
+            put(answer, 0, 0, 0, 0, 0);
+            0
+        }
+    }
 }

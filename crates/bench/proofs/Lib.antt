@@ -1,0 +1,13 @@
+pub mod Flips
+pub mod Clean
+pub mod Ends
+pub mod Steps
+pub mod Kept
+pub mod Settles
+pub mod Words
+pub mod Orders
+pub mod Pulses
+pub mod Schedule
+pub mod Hazard
+pub mod Theorem
+pub mod Instances

@@ -1,0 +1,18 @@
+-- What an accepted change list is: all that the layers above know of the check.
+use Prim.Native.Nat.{ℕ, _+_, _*_, _≤_}
+use mathlib.Core.Path.{_≡_}
+use mathlib.Core.List.{List}
+use lib.ListN.{length}
+use Rattle.netlist.specs.Words.{longAt, tieOf}
+use Rattle.netlist.specs.Netlist.{checked}
+use Rattle.netlist.specs.declared.Checked.the-variants as netlist
+use Rattle.changes.specs.Changes.{changesOf, widthOf, sizeOf}
+
+pub record ListFormed (n l : List ℕ) (inputs gates outputs pins entries changes width : ℕ) : Type 0 where
+  pub netlist-accepted : checked n ≡ netlist.Accepted inputs gates outputs pins entries
+  pub changes-are : changes ≡ changesOf l
+  pub changes-high : changes ≤ 1000
+  pub width-is : width ≡ widthOf inputs
+  pub width-high : width ≤ 32
+  pub tied : longAt l 5 ≡ tieOf n
+  pub whole : length l ≡ 11 + changes * sizeOf width

@@ -1,0 +1,178 @@
+// Change lists: the check against a netlist with its refusals, and readers of an input's class.
+ghost use mathlib.Core.Path.{_≡_};
+ghost use mathlib.Core.List.{_++_};
+ghost use Prim.Native.Nat.{_+_, _*_, _/_, _^_, _≤_, _<_};
+ghost use lib.ListN.{length, drop};
+ghost use Rattle.kung.specs.Class.{code};
+ghost use Rattle.netlist.specs.Words.{byteAt};
+ghost use Rattle.changes.specs.Changes.{widthOf, sizeOf, inputClassAt, inputCodes, codeIn, written};
+ghost use Rattle.changes.specs.Refusals.{sparesFrom, afterNetlist, listChecked};
+use netlist::Checked;
+use netlist::byte_at;
+use netlist::long_at;
+use netlist::word_at;
+
+// The answer of a check: the netlist's counts, pins and place of the output entries, the number of changes and the bytes of a vector, or
+// the number and place of a refusal.
+pub enum Listed {
+    Accepted {
+        inputs: usize,
+        gates: usize,
+        outputs: usize,
+        pins: usize,
+        entries: usize,
+        changes: usize,
+        width: usize,
+    },
+    Refused(u8, usize),
+}
+
+// The bits of the byte at a place above its first `used`.
+fn bits_above(list: &[u8], at: usize, used: usize) -> usize
+    requires { ⌜ (at < length (now list)) × (used ≤ 8) ⌝ }
+    ensures { λ r. ⌜ r ≡ byteAt (now (list .entry)) at / 2 ^ used ⌝ }
+{
+    (list[at] as usize) >> used
+}
+
+// The spare bits, vector after vector; `next` is the answer where none is set.
+fn check_spares(list: &[u8], inputs: usize, changes: usize, next: Listed) -> Listed
+    requires { ⌜ (1 ≤ inputs) × (inputs ≤ 256) × (length (now list) ≡ 11 + changes * sizeOf (widthOf inputs)) ⌝ }
+    ensures { λ r. ⌜ r ≡ sparesFrom changes inputs (now (list .entry)) 11 next ⌝ }
+{
+    let width = (inputs + 7) / 8;
+    // the inputs in a vector's last byte
+    let used = inputs + 8 - 8 * width;
+    let mut at: usize = 11;
+    for t in 0..changes {
+        let first = at + width - 1;
+        if 0 < bits_above(list, first, used) {
+            return Listed::Refused(17, first);
+        }
+        let second = at + width + width - 1;
+        if 0 < bits_above(list, second, used) {
+            return Listed::Refused(17, second);
+        }
+        at += 2 * width;
+    }
+    next
+}
+
+// The list for a netlist of so many inputs and this tie; `next` is the answer where nothing is refused.
+fn check_list(list: &[u8], inputs: usize, tie: u32, next: Listed) -> Listed
+    requires { ⌜ (1 ≤ inputs) × (inputs ≤ 256) ⌝ }
+    ensures { λ r. ⌜ r ≡ afterNetlist 1 1000 inputs tie (now (list .entry)) next ⌝ }
+{
+    if list.len() < 11 {
+        return Listed::Refused(11, list.len());
+    }
+    if !netlist::is_marked(list, b'L', b'C', b'T') {
+        return Listed::Refused(12, 0);
+    }
+    if word_at(list, 3) != 1 {
+        return Listed::Refused(13, 3);
+    }
+    if long_at(list, 5) != tie {
+        return Listed::Refused(14, 5);
+    }
+    let changes = word_at(list, 9) as usize;
+    if 1000 < changes {
+        return Listed::Refused(15, 9);
+    }
+    let width = (inputs + 7) / 8;
+    if list.len() != 11 + changes * (2 * width) {
+        return Listed::Refused(16, list.len());
+    }
+    check_spares(list, inputs, changes, next)
+}
+
+// The check of a change list against its netlist.
+pub fn check(netlist: &[u8], list: &[u8]) -> Listed
+    ensures { λ r. ⌜ r ≡ listChecked (now (netlist .entry)) (now (list .entry)) ⌝ }
+{
+    let checked = netlist::check(netlist);
+    match checked {
+        Checked::Refused(number, place) => Listed::Refused(number, place),
+        Checked::Accepted {
+            inputs,
+            gates,
+            outputs,
+            pins,
+            entries,
+        } => {
+            let tie = netlist::tie(netlist);
+            let changes = word_at(list, 9) as usize;
+            let width = (inputs + 7) / 8;
+            let next = Listed::Accepted {
+                inputs,
+                gates,
+                outputs,
+                pins,
+                entries,
+                changes,
+                width,
+            };
+            check_list(list, inputs, tie, next)
+        }
+    }
+}
+
+// The class of an input by bit k of its two bytes.
+fn class_of_bits(first: u8, second: u8, k: usize) -> u8
+    requires { ⌜ k < 8 ⌝ }
+    ensures { λ r. ⌜ r ≡ codeIn first second k ⌝ }
+{
+    let start = (first >> k) % 2;
+    let end = (second >> k) % 2;
+    start + 2 * (start ^ end)
+}
+
+// The class of input i in change t; bytes past the end are 0.
+pub fn class_of_input(list: &[u8], width: usize, t: usize, i: usize) -> u8
+    requires { ⌜ (width ≤ 32) × (t ≤ 1000) ⌝ }
+    ensures { λ r. ⌜ r ≡ code (inputClassAt (now (list .entry)) width t i) ⌝ }
+{
+    let first = 11 + t * (2 * width);
+    let second = first + width;
+    class_of_bits(
+        byte_at(list, first + i / 8),
+        byte_at(list, second + i / 8),
+        i % 8,
+    )
+}
+
+// Writes the classes of the first `count` inputs of two bytes from a place on.
+fn fill_byte(first: u8, second: u8, count: usize, at: usize, buffer: &mut [u8])
+    requires { ⌜ (count ≤ 8) × (at + count ≤ length (now buffer)) ⌝ }
+    ensures { λ r. ⌜ now (buffer .exit) ≡ written (now (buffer .entry)) at (codeIn first second) count ⌝ }
+{
+    for k in 0..count {
+        buffer[at + k] = class_of_bits(first, second, k);
+    }
+}
+
+// Writes the classes of the inputs in change t into the first bytes of the buffer.
+pub fn fill_inputs(list: &[u8], width: usize, t: usize, inputs: usize, buffer: &mut [u8])
+    requires { ⌜ (width ≤ 32) × (t ≤ 1000) × (inputs ≤ length (now buffer)) ⌝ }
+    ensures { λ r. ⌜ now (buffer .exit) ≡ inputCodes (now (list .entry)) width t inputs ++ drop inputs (now (buffer .entry)) ⌝ }
+{
+    let first = 11 + t * (2 * width);
+    let second = first + width;
+    let whole = inputs / 8;
+    for j in 0..whole {
+        fill_byte(
+            byte_at(list, first + j),
+            byte_at(list, second + j),
+            8,
+            8 * j,
+            buffer,
+        );
+    }
+    fill_byte(
+        byte_at(list, first + whole),
+        byte_at(list, second + whole),
+        inputs % 8,
+        8 * whole,
+        buffer,
+    );
+}

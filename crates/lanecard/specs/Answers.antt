@@ -1,0 +1,40 @@
+-- The answers as the exported functions give them: the refusal's number, or 0, and five words.
+use Prim.Native.Nat.{ℕ}
+use mathlib.Core.Path.{_≡_}
+use mathlib.Core.List.{List, [], _∷_}
+use Rattle.netlist.specs.declared.Checked.{Checked}
+use Rattle.netlist.specs.declared.Checked.the-variants as netlist
+use Rattle.changes.specs.declared.Listed.{Listed}
+use Rattle.changes.specs.declared.Listed.the-variants as list
+use Rattle.simulate.specs.Full.{fullAnswer, fullBuffer}
+use Rattle.simulate.specs.declared.Simulated.{Simulated}
+use Rattle.simulate.specs.declared.Simulated.the-variants as simulate
+
+-- number and words together: a refusal's first word is its place
+pub record Answer : Type 0 where
+  pub number : ℕ
+  pub words : List ℕ
+
+abbrev pub accepted : (a b c d e : ℕ) → Answer
+accepted a b c d e = record { number = 0; words = a ∷ b ∷ c ∷ d ∷ e ∷ [] }
+
+abbrev pub refused : (number place : ℕ) → Answer
+refused number place = record { number = number; words = place ∷ 0 ∷ 0 ∷ 0 ∷ 0 ∷ [] }
+
+unfoldable pub netlistAnswer : Checked → Answer
+netlistAnswer (netlist.Accepted inputs gates outputs pins entries) = accepted inputs gates outputs pins entries
+netlistAnswer (netlist.Refused number place) = refused number place
+
+unfoldable pub listAnswer : Listed → Answer
+listAnswer (list.Accepted inputs gates outputs pins entries changes width) = accepted changes width 0 0 0
+listAnswer (list.Refused number place) = refused number place
+
+unfoldable pub simulatedAnswer : Simulated → Answer
+simulatedAnswer simulate.Done = accepted 0 0 0 0 0
+simulatedAnswer (simulate.Refused number place) = refused number place
+
+-- full simulation's number, words and lent bytes
+pub record Fulled (n l : List ℕ) (change : ℕ) (entry exit : List ℕ) (number : ℕ) (words : List ℕ) : Type 0 where
+  pub number-is : number ≡ simulatedAnswer (fullAnswer n l change entry) .number
+  pub words-are : words ≡ simulatedAnswer (fullAnswer n l change entry) .words
+  pub bytes-are : exit ≡ fullBuffer n l change entry

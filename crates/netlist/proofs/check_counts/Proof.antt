@@ -1,0 +1,79 @@
+-- `check_counts`: the counts in turn; in their ranges they are no more than 2,304 signals. Assumes nothing.
+use mathlib.Core.Path.{_≡_, _∙_, sym}
+use mathlib.Core.Bool.{false}
+use borrow.Author.Needs.{needs}
+use Rattle.netlist.specs.Words.{outside}
+use Rattle.netlist.specs.Netlist.{inputsOf, gatesOf}
+use Rattle.netlist.proofs.Refusals.{counts-inputs, counts-gates, counts-outputs, counts-pass, body-within}
+use Rattle.netlist.proofs.check_counts.Statement.{statement}
+use Rattle.netlist.proofs.check_counts.Tie as tie
+
+inputs-in : (c : tie.Else1) → outside 1 256 (inputsOf (c .before .before .before .before .args .s .now)) ≡ false
+inputs-in c = cc
+
+gates-in : (c : tie.Else2) → outside 0 2048 (gatesOf (c .before .before .before .before .before .before .before .args .s .now)) ≡ false
+gates-in c = cc
+
+word-at-requires : tie.Need-word-at-requires
+word-at-requires c κs = search needs
+
+cast-is-outside : tie.Need-cast-is-outside
+cast-is-outside c = search needs
+
+is-outside-requires : tie.Need-is-outside-requires
+is-outside-requires c κs = search needs
+
+returns : tie.Need-returns
+returns c = sym (counts-inputs _ _ (cc))
+
+word-at-requires-2 : tie.Need-word-at-requires-2
+word-at-requires-2 c κs = search needs
+
+cast-is-outside-2 : tie.Need-cast-is-outside-2
+cast-is-outside-2 c = search needs
+
+is-outside-requires-2 : tie.Need-is-outside-requires-2
+is-outside-requires-2 c κs = search needs
+
+returns-2 : tie.Need-returns-2
+returns-2 c = sym (counts-gates _ _ (inputs-in (c .before .before .before)) (cc))
+
+word-at-requires-3 : tie.Need-word-at-requires-3
+word-at-requires-3 c κs = search needs
+
+cast-is-outside-3 : tie.Need-cast-is-outside-3
+cast-is-outside-3 c = search needs
+
+is-outside-requires-3 : tie.Need-is-outside-requires-3
+is-outside-requires-3 c κs = search needs
+
+returns-3 : tie.Need-returns-3
+returns-3 c = sym (counts-outputs _ _ (inputs-in (c .before .before .before .before .before .before)) (gates-in (c .before .before .before)) (cc))
+
+check-records-requires : tie.Need-check-records-requires
+check-records-requires c κs = search needs
+
+returns-4 : tie.Need-returns-4
+returns-4 c =
+    let i = inputs-in (c .before .before .before .before .before .before .before) in
+    let g = gates-in (c .before .before .before .before) in
+    c .check-records .ensures ∙ sym (counts-pass _ _ i g (cc) ∙ body-within _ i g)
+
+pub check-counts-spec : {M : Type 1} → statement M
+check-counts-spec =
+    tie.close
+    (tie.spec
+    word-at-requires
+    cast-is-outside
+    is-outside-requires
+    returns
+    word-at-requires-2
+    cast-is-outside-2
+    is-outside-requires-2
+    returns-2
+    word-at-requires-3
+    cast-is-outside-3
+    is-outside-requires-3
+    returns-3
+    check-records-requires
+    returns-4)

@@ -1,0 +1,119 @@
+-- `check_outputs`: what is left of the entries is the whole of what follows the records. Assumes nothing.
+use Prim.Native.Nat.{_+_, _-_, _*_, _≤_}
+use mathlib.Core.Path.{_≡_, _∙_, sym}
+use borrow.Author.Tests.{lt-ltb, le-ltb}
+use lib.Dec.{ltb}
+use lib.ListN.{length}
+use Rattle.netlist.specs.Netlist.{outputs, accepted, wordsBelow, refuse}
+use Rattle.netlist.proofs.Refusals.{stop, pass, outputs-cut, outputs-start, words-stop, words-more, words-end}
+use borrow.Author.Needs.{needs}
+use Rattle.netlist.proofs.check_outputs.Statement.{statement}
+use Rattle.netlist.proofs.check_outputs.Tie as tie
+
+abbrev Inv-loop : tie.InvT-loop
+Inv-loop s pins at inputs gates count end k₀ k =
+    (k ≤ count)
+    × (outputs s (accepted s) ≡ wordsBelow (count - k) s (at + 2 * k) (inputs + gates) 9 (refuse (ltb (at + 2 * count) (length s)) 10 (at + 2 * count) (accepted s)))
+
+abbrev μ-loop : tie.MeasureT-loop
+μ-loop s pins at inputs gates count end k₀ k = count - k
+
+word-at-requires : tie.Need-word-at-requires Inv-loop μ-loop
+word-at-requires c κs = search needs
+
+cast-inputs : tie.Need-cast-inputs Inv-loop μ-loop
+cast-inputs c = search needs
+
+word-at-requires-2 : tie.Need-word-at-requires-2 Inv-loop μ-loop
+word-at-requires-2 c κs = search needs
+
+cast-gates : tie.Need-cast-gates Inv-loop μ-loop
+cast-gates c = search needs
+
+word-at-requires-3 : tie.Need-word-at-requires-3 Inv-loop μ-loop
+word-at-requires-3 c κs = search needs
+
+cast-outputs : tie.Need-cast-outputs Inv-loop μ-loop
+cast-outputs c = search needs
+
+mul-end : tie.Need-mul-end Inv-loop μ-loop
+mul-end c = search needs
+
+add-end : tie.Need-add-end Inv-loop μ-loop
+add-end c = search needs
+
+returns : tie.Need-returns Inv-loop μ-loop
+returns c =
+    let start = c .before .before .before .before .before in
+    sym (outputs-cut _ _ _ _ (c .before .word-at3 .ensures) (start .pre .1) (c .if1 .taken))
+
+loop-holds : tie.Need-loop-holds Inv-loop μ-loop
+loop-holds c =
+    let start = c .before .before .before .before .before in
+    let inputs = c .before .before .before .word-at .ensures in
+    let gates = c .before .before .word-at2 .ensures in
+    (search needs, outputs-start _ _ _ _ (c .before .word-at3 .ensures) (start .pre .1) _ _ inputs gates (c .if1 .left))
+
+mul-place : tie.Need-mul-place Inv-loop μ-loop
+mul-place c = search needs
+
+add-place : tie.Need-add-place Inv-loop μ-loop
+add-place c = search needs
+
+add-if2 : tie.Need-add-if2 Inv-loop μ-loop
+add-if2 c = search needs
+
+word-in-requires : tie.Need-word-in-requires Inv-loop μ-loop
+word-in-requires c κs = search needs
+
+cast-if2 : tie.Need-cast-if2 Inv-loop μ-loop
+cast-if2 c = search needs
+
+returns-2 : tie.Need-returns-2 Inv-loop μ-loop
+returns-2 c = sym (c .before .before .before .loop .inv .1 ∙ words-stop _ _ _ _ _ _ _ (c .before .before .loop-test .taken) (search needs))
+
+add-k : tie.Need-add-k Inv-loop μ-loop
+add-k c = search needs
+
+loop-less : tie.Need-loop-less Inv-loop μ-loop
+loop-less c = search needs
+
+loop-again : tie.Need-loop-again Inv-loop μ-loop
+loop-again c = (search needs, c .before .before .before .loop .inv .1 ∙ words-more _ _ _ _ _ _ _ (c .before .before .loop-test .taken) (search needs))
+
+returns-3 : tie.Need-returns-3 Inv-loop μ-loop
+returns-3 c = sym (c .before .before .loop .inv .1 ∙ words-end _ _ _ _ _ _ _ (c .before .loop-test .left) ∙ stop _ _ _ _ (lt-ltb _ _ (c .if3 .taken)))
+
+returns-4 : tie.Need-returns-4 Inv-loop μ-loop
+unfolding accepted
+returns-4 c =
+    let e = c .before .before .loop .inv .1 ∙ words-end _ _ _ _ _ _ _ (c .before .loop-test .left) ∙ pass _ _ _ _ (le-ltb _ _ (c .if3 .left)) in
+    cc e
+
+pub check-outputs-spec : {M : Type 1} → statement M
+check-outputs-spec =
+    tie.close
+    (tie.spec
+    Inv-loop
+    μ-loop
+    word-at-requires
+    cast-inputs
+    word-at-requires-2
+    cast-gates
+    word-at-requires-3
+    cast-outputs
+    mul-end
+    add-end
+    returns
+    loop-holds
+    mul-place
+    add-place
+    add-if2
+    word-in-requires
+    cast-if2
+    returns-2
+    add-k
+    loop-less
+    loop-again
+    returns-3
+    returns-4)

@@ -1,0 +1,14 @@
+-- `is_outside`: below, then above. Assumes nothing.
+use mathlib.Core.Path.{sym}
+use Rattle.netlist.proofs.Laws.{outside-below, outside-above}
+use Rattle.netlist.proofs.is_outside.Statement.{statement}
+use Rattle.netlist.proofs.is_outside.Tie as tie
+
+returns : tie.Need-returns
+returns c = sym (outside-below _ _ _ (c .if1 .taken))
+
+returns-2 : tie.Need-returns-2
+returns-2 c = sym (outside-above _ _ _ (c .if1 .left))
+
+pub is-outside-spec : {M : Type 1} → statement M
+is-outside-spec = tie.close (tie.spec returns returns-2)

@@ -1,0 +1,259 @@
+// Card netlists: the check with its refusals, the tie, the index of the records' places, and readers.
+ghost use mathlib.Core.Path.{_≡_};
+ghost use mathlib.Core.List.{_++_};
+ghost use mathlib.Core.Bool.{cond};
+ghost use Prim.Native.Nat.{_+_, _*_, _≤_};
+ghost use lib.ListN.{length, drop};
+ghost use Rattle.netlist.specs.Words.{byteAt, wordAt, longAt, marked, outside, tieOf};
+ghost use Rattle.netlist.specs.Netlist.{kindAt, countAt, pinAt, placeOf, placesOf, pinTotal, entriesAt};
+ghost use Rattle.netlist.specs.Netlist.{noKind, leastPins, mostPins, counts, outputs, accepted, body, bodyWithin, checked};
+
+// The answer of a check: the counts, the pins together and the place of the output entries, or the number and place of a refusal.
+pub enum Checked {
+    Accepted {
+        inputs: usize,
+        gates: usize,
+        outputs: usize,
+        pins: usize,
+        entries: usize,
+    },
+    Refused(u8, usize),
+}
+
+// The byte at a place, and 0 past the end.
+pub fn byte_at(s: &[u8], at: usize) -> u8
+    ensures { λ r. ⌜ r ≡ byteAt (now (s .entry)) at ⌝ }
+{
+    if at < s.len() { s[at] } else { 0 }
+}
+
+// The two bytes at a place, low byte first; bytes past the end are 0.
+pub fn word_at(s: &[u8], at: usize) -> u16
+    ensures { λ r. ⌜ r ≡ wordAt (now (s .entry)) at ⌝ }
+{
+    if at < s.len() {
+        byte_at(s, at) as u16 + 256 * byte_at(s, at + 1) as u16
+    } else {
+        0
+    }
+}
+
+// The four bytes at a place, low byte first; bytes past the end are 0.
+pub fn long_at(s: &[u8], at: usize) -> u32
+    ensures { λ r. ⌜ r ≡ longAt (now (s .entry)) at ⌝ }
+{
+    if at < s.len() {
+        word_at(s, at) as u32 + 65536 * word_at(s, at + 2) as u32
+    } else {
+        0
+    }
+}
+
+// The tie of a netlist, which binds a list of changes to it.
+pub fn tie(s: &[u8]) -> u32
+    ensures { λ r. ⌜ r ≡ tieOf (now (s .entry)) ⌝ }
+{
+    let mut a: u32 = 0;
+    let mut b: u32 = 0;
+    let mut i: usize = 0;
+    while i < s.len() {
+        a = std::num::wrapping_add_u32(a, s[i] as u32);
+        b = std::num::wrapping_add_u32(b, a);
+        i += 1;
+    }
+    b
+}
+
+// A word inside the bytes.
+pub fn word_in(s: &[u8], at: usize) -> u16
+    requires { ⌜ at + 2 ≤ length (now s) ⌝ }
+    ensures { λ r. ⌜ r ≡ wordAt (now (s .entry)) at ⌝ }
+{
+    s[at] as u16 + 256 * (s[at + 1] as u16)
+}
+
+// Whether the bytes begin with three letters.
+pub fn is_marked(s: &[u8], a: u8, b: u8, c: u8) -> bool
+    ensures { λ r. ⌜ r ≡ marked (now (s .entry)) a b c ⌝ }
+{
+    if byte_at(s, 0) != a {
+        return false;
+    }
+    if byte_at(s, 1) != b {
+        return false;
+    }
+    byte_at(s, 2) == c
+}
+
+// Whether a number is out of its range.
+pub fn is_outside(least: usize, most: usize, n: usize) -> bool
+    ensures { λ r. ⌜ r ≡ outside least most n ⌝ }
+{
+    if n < least { true } else { most < n }
+}
+
+// How many pins a kind takes; none where the byte is no kind.
+struct PinLimits {
+    least: usize,
+    most: usize,
+}
+
+fn pin_limits(kind: u8) -> PinLimits
+    ensures { λ r. ⌜ (r .least ≡ cond (noKind kind) 0 (leastPins kind)) × (r .most ≡ cond (noKind kind) 0 (mostPins kind)) ⌝ }
+{
+    match kind {
+        1..=2 => PinLimits { least: 1, most: 1 },
+        3..=6 => PinLimits { least: 2, most: 8 },
+        _ => PinLimits { least: 0, most: 0 },
+    }
+}
+
+// The check from the output entries on, with what was counted on the way.
+fn check_outputs(s: &[u8], pins: usize, at: usize) -> Checked
+    requires { ⌜ (pins ≡ pinTotal (now s)) × (at ≡ entriesAt (now s)) × (at ≤ length (now s) + 11) ⌝ }
+    ensures { λ r. ⌜ r ≡ outputs (now (s .entry)) (accepted (now (s .entry))) ⌝ }
+{
+    let inputs = word_at(s, 5) as usize;
+    let gates = word_at(s, 7) as usize;
+    let outputs = word_at(s, 9) as usize;
+    let end = at + 2 * outputs;
+    if s.len() < end {
+        return Checked::Refused(5, at);
+    }
+    for k in 0..outputs {
+        let place = at + 2 * k;
+        if inputs + gates <= word_in(s, place) as usize {
+            return Checked::Refused(9, place);
+        }
+    }
+    if end < s.len() {
+        Checked::Refused(10, end)
+    } else {
+        Checked::Accepted {
+            inputs,
+            gates,
+            outputs,
+            pins,
+            entries: at,
+        }
+    }
+}
+
+// The check from the records on.
+fn check_records(s: &[u8]) -> Checked
+    ensures { λ r. ⌜ r ≡ body (now (s .entry)) ⌝ }
+{
+    let inputs = word_at(s, 5) as usize;
+    let gates = word_at(s, 7) as usize;
+    let mut gate: usize = 0;
+    let mut at: usize = 11;
+    let mut pins: usize = 0;
+    'records: loop {
+        if gate == gates {
+            break 'records check_outputs(s, pins, at);
+        }
+        if s.len() < at + 2 {
+            break 'records Checked::Refused(5, at);
+        }
+        let second = at + 1;
+        let count = s[second] as usize;
+        let limits = pin_limits(s[at]);
+        if limits.most == 0 {
+            break 'records Checked::Refused(6, at);
+        }
+        if is_outside(limits.least, limits.most, count) {
+            break 'records Checked::Refused(7, second);
+        }
+        let end = at + 2 + 2 * count;
+        if s.len() < end {
+            break 'records Checked::Refused(5, at);
+        }
+        'pins: for k in 0..count {
+            let place = at + 2 + 2 * k;
+            if inputs + gate <= word_in(s, place) as usize {
+                break 'records Checked::Refused(8, place);
+            }
+        }
+        pins += count;
+        at = end;
+        gate += 1;
+    }
+}
+
+// The check from the counts on.
+fn check_counts(s: &[u8]) -> Checked
+    ensures { λ r. ⌜ r ≡ counts (now (s .entry)) (bodyWithin 2304 (now (s .entry))) ⌝ }
+{
+    if is_outside(1, 256, word_at(s, 5) as usize) {
+        return Checked::Refused(4, 5);
+    }
+    if is_outside(0, 2048, word_at(s, 7) as usize) {
+        return Checked::Refused(4, 7);
+    }
+    if is_outside(1, 64, word_at(s, 9) as usize) {
+        return Checked::Refused(4, 9);
+    }
+    check_records(s)
+}
+
+// The check of a netlist.
+pub fn check(s: &[u8]) -> Checked
+    ensures { λ r. ⌜ r ≡ checked (now (s .entry)) ⌝ }
+{
+    if s.len() < 11 {
+        return Checked::Refused(1, s.len());
+    }
+    if !is_marked(s, b'L', b'C', b'N') {
+        return Checked::Refused(2, 0);
+    }
+    if word_at(s, 3) != 1 {
+        return Checked::Refused(3, 3);
+    }
+    check_counts(s)
+}
+
+// Writes the places of the records of gates 0 to `gates` - 1.
+pub fn fill_places(s: &[u8], places: &mut [u16], gates: usize)
+    requires { ⌜ (gates ≤ length (now places)) × (placeOf (now s) gates ≤ 65535) ⌝ }
+    ensures { λ r. ⌜ now (places .exit) ≡ placesOf (now (s .entry)) gates ++ drop gates (now (places .entry)) ⌝ }
+{
+    let mut at: usize = 11;
+    let mut gate: usize = 0;
+    while gate < gates {
+        places[gate] = at as u16;
+        at = at + 2 + 2 * count_at(s, at as u16) as usize;
+        gate += 1;
+    }
+}
+
+// Of the record at a place: the kind byte, the pin count and pin `k`.
+pub fn kind_at(s: &[u8], place: u16) -> u8
+    ensures { λ r. ⌜ r ≡ kindAt (now (s .entry)) place ⌝ }
+{
+    byte_at(s, place as usize)
+}
+
+pub fn count_at(s: &[u8], place: u16) -> u8
+    ensures { λ r. ⌜ r ≡ countAt (now (s .entry)) place ⌝ }
+{
+    byte_at(s, place as usize + 1)
+}
+
+pub fn pin_at(s: &[u8], place: u16, k: u8) -> u16
+    ensures { λ r. ⌜ r ≡ pinAt (now (s .entry)) place k ⌝ }
+{
+    word_at(s, place as usize + 2 + 2 * (k as usize))
+}
+
+// The output entry `output` places after the entries' start; 0 past the end.
+pub fn entry_at(s: &[u8], entries: usize, output: usize) -> u16
+    ensures { λ r. ⌜ r ≡ wordAt (now (s .entry)) (entries + 2 * output) ⌝ }
+{
+    if s.len() <= entries {
+        return 0;
+    }
+    if s.len() - entries <= output {
+        return 0;
+    }
+    word_at(s, entries + 2 * output)
+}

@@ -1,0 +1,1 @@
+// CORE, the search of one output: definition in specs/, theorems in proofs/.

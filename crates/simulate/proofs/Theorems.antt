@@ -1,0 +1,46 @@
+-- What the layers above cite of the classes in a change. Assumes nothing.
+use Prim.Native.Nat.{ℕ, _+_, _<_}
+use native.Mathlib.Omega.{arith}
+use mathlib.Core.Path.{_≡_, refl, sym, _∙_, ap}
+use mathlib.Core.List.{List, map}
+use lib.ListN.{getD, List·getD-map}
+use Rattle.kung.specs.Class.{Class, c0, code, start, end}
+use Rattle.kung.specs.Rule.{gateClass}
+use Rattle.circuit.specs.Circuit.{values, value}
+use Rattle.circuit.specs.Settled.{settled, classOf}
+use Rattle.circuit.proofs.Laws.{values-at}
+use Rattle.circuit.proofs.Ends.{class-gate, start-is, end-is}
+use Rattle.netlist.specs.Netlist.{inputsOf, gatesOf, gateKind, gatePins, cardOf}
+use Rattle.netlist.specs.Formed.{Formed}
+use Rattle.changes.specs.Changes.{widthOf, first, second, bitOf, inputClassAt, sourcesOf}
+use Rattle.simulate.specs.Full.{classIn, codes}
+
+-- the class is the value that the sources give
+pub class-value : (n l : List ℕ) (t s : ℕ) → classIn n l t s ≡ value gateClass c0 (sourcesOf n l t) s
+unfolding classIn classOf sourcesOf inputClassAt
+class-value n l t s = refl
+
+-- byte s of what is written is the code of signal s's class
+pub codes-at : (n l : List ℕ) (t s : ℕ) → s < inputsOf n + gatesOf n → getD (codes n l t) s 0 ≡ code (classIn n l t s)
+unfolding codes
+codes-at n l t s h =
+    List·getD-map code (values gateClass c0 (sourcesOf n l t) (inputsOf n + gatesOf n)) s c0
+    ∙ ap code (values-at gateClass c0 (sourcesOf n l t) (inputsOf n + gatesOf n) s h ∙ sym (class-value n l t s))
+
+module _ {i g o p e : ℕ} (n l : List ℕ) (t : ℕ) (formed : Formed n i g o p e) where
+  -- each gate's class is the rule over its pins' classes
+  pub class-law : (h : ℕ) → h < g → classIn n l t (i + h) ≡ gateClass (gateKind n h) (map (classIn n l t) (gatePins n h))
+  unfolding classIn cardOf
+  class-law h below =
+      ap (λ x. classOf (cardOf n) (bitOf l (widthOf (inputsOf n)) t first) (bitOf l (widthOf (inputsOf n)) t second) (x + h)) (formed .inputs-are)
+      ∙ class-gate (cardOf n) (formed .well-formed) (bitOf l (widthOf (inputsOf n)) t first) (bitOf l (widthOf (inputsOf n)) t second) h
+      (omega (arith, formed .gates-are))
+
+  -- a class starts and ends at the values settled at the first and at the second vector
+  pub starts : (s : ℕ) → settled (cardOf n) (bitOf l (widthOf (inputsOf n)) t first) s ≡ start (classIn n l t s)
+  unfolding classIn
+  starts = start-is (cardOf n) (formed .well-formed) (bitOf l (widthOf (inputsOf n)) t first) (bitOf l (widthOf (inputsOf n)) t second)
+
+  pub ends : (s : ℕ) → settled (cardOf n) (bitOf l (widthOf (inputsOf n)) t second) s ≡ end (classIn n l t s)
+  unfolding classIn
+  ends = end-is (cardOf n) (formed .well-formed) (bitOf l (widthOf (inputsOf n)) t first) (bitOf l (widthOf (inputsOf n)) t second)

@@ -1,0 +1,179 @@
+//! `lane_full` against the reference: the bytes of the whole buffer, accepted
+//! or refused.
+
+use reference::cases;
+use reference::full::simulate;
+use reference::netlist::{Card, MAX_GATES, MAX_INPUTS};
+use reference::random::{self, Random, SHAPES};
+
+extern "C" {
+    #[allow(clippy::too_many_arguments)]
+    fn lane_full(
+        netlist: *const u8,
+        netlist_len: usize,
+        list: *const u8,
+        list_len: usize,
+        change: usize,
+        buffer: *mut u8,
+        buffer_len: usize,
+        answer: *mut u64,
+    ) -> u32;
+}
+
+/// The library's answer: the refusal number (0 none) and the five values.
+fn library(netlist: &[u8], list: &[u8], change: usize, buffer: &mut [u8]) -> (u32, [u64; 5]) {
+    let mut answer = [u64::MAX; 5];
+    // SAFETY: the slices, the buffer and the five values live through the call.
+    let number = unsafe {
+        lane_full(
+            netlist.as_ptr(),
+            netlist.len(),
+            list.as_ptr(),
+            list.len(),
+            change,
+            buffer.as_mut_ptr(),
+            buffer.len(),
+            answer.as_mut_ptr(),
+        )
+    };
+    (number, answer)
+}
+
+fn expected(netlist: &[u8], list: &[u8], change: usize, buffer: &mut [u8]) -> (u32, [u64; 5]) {
+    match simulate(netlist, list, change, buffer) {
+        Ok(()) => (0, [0; 5]),
+        Err(refused) => (refused.number, [refused.place, 0, 0, 0, 0]),
+    }
+}
+
+/// Compares answers and buffers; gives back the refusal number.
+fn compare(netlist: &[u8], list: &[u8], change: usize, length: usize) -> u32 {
+    let filled: Vec<u8> = (0..length).map(|at| 0xA0 | (at as u8 % 16)).collect();
+    let (mut found, mut wanted) = (filled.clone(), filled.clone());
+    let answer = library(netlist, list, change, &mut found);
+    let right = expected(netlist, list, change, &mut wanted);
+    assert_eq!(answer, right, "change {change} buffer {length}");
+    assert_eq!(found, wanted, "change {change} buffer {length}");
+    if right.0 != 0 {
+        assert_eq!(found, filled, "a refusal leaves the buffer");
+    }
+    right.0
+}
+
+/// All changes, buffers equal and longer.
+fn compare_card(random: &mut Random, card: &Card, count: usize) -> usize {
+    let (netlist, list) = random::files(random, card, count);
+    let signals = card.signals();
+    for change in 0..count {
+        let longer = random.pick(&[0, 1, 7, 100]);
+        assert_eq!(compare(&netlist, &list, change, signals + longer), 0);
+    }
+    count
+}
+
+#[test]
+fn mux() {
+    let (netlist, list) = (cases::mux_netlist(), cases::mux_list());
+    let mut buffer = [0xEE; 8];
+    assert_eq!(library(&netlist, &list, 0, &mut buffer), (0, [0; 5]));
+    assert_eq!(buffer, [1, 1, 3, 2, 3, 2, 5, 0xEE]);
+}
+
+#[test]
+fn cards_of_every_shape() {
+    let mut random = Random::new(31);
+    let mut compared = 0;
+    for shape in SHAPES {
+        for _ in 0..150 {
+            let (inputs, gates) = (random.from_to(1, 40), random.below(120));
+            let card = random::card(&mut random, shape, inputs, gates, 3);
+            compared += compare_card(&mut random, &card, 6);
+        }
+        for (inputs, gates) in [
+            (1, 0),
+            (1, MAX_GATES),
+            (MAX_INPUTS, 0),
+            (MAX_INPUTS, MAX_GATES),
+        ] {
+            let card = random::card(&mut random, shape, inputs, gates, 64);
+            compared += compare_card(&mut random, &card, 4);
+        }
+    }
+    for _ in 0..200 {
+        let card = random::any_card(&mut random);
+        let count = random.pick(&[1, 3, 20]);
+        compared += compare_card(&mut random, &card, count);
+    }
+    let widest = random::widest_card(&mut random);
+    compared += compare_card(&mut random, &widest, 30);
+    println!("full shapes: {compared} simulations compared");
+}
+
+/// A whole list of 1,000 changes.
+#[test]
+fn longest_list() {
+    let mut random = Random::new(32);
+    let card = random::card(&mut random, random::Shape::Mixed, 33, 50, 2);
+    let compared = compare_card(&mut random, &card, 1000);
+    println!("full longest list: {compared} simulations compared");
+}
+
+#[test]
+fn buffers_of_every_length() {
+    let mut random = Random::new(33);
+    let mut compared = 0;
+    for _ in 0..60 {
+        let card = random::small_card(&mut random);
+        let signals = card.signals();
+        let (netlist, list) = random::files(&mut random, &card, 1);
+        for length in 0..signals + 4 {
+            let number = compare(&netlist, &list, 0, length);
+            assert_eq!(number, if length < signals { 20 } else { 0 });
+            compared += 1;
+        }
+    }
+    println!("full buffers: {compared} calls compared");
+}
+
+#[test]
+fn change_numbers() {
+    let mut random = Random::new(34);
+    let mut compared = 0;
+    for count in [0, 1, 2, 300] {
+        let card = random::card(&mut random, random::Shape::Shared, 9, 20, 2);
+        let (netlist, list) = random::files(&mut random, &card, count);
+        let past = [count, count + 1, count + 256, 65_536, 1 << 32, 1 << 63];
+        let past = past.into_iter().chain([usize::MAX - 1, usize::MAX]);
+        for change in past {
+            // 18 comes before 20, so the length does not matter.
+            for length in [0, card.signals() - 1, card.signals(), 500] {
+                assert_eq!(compare(&netlist, &list, change, length), 18);
+                compared += 1;
+            }
+        }
+    }
+    println!("full change numbers: {compared} calls compared");
+}
+
+/// The list's refusals come first, whatever change and buffer are.
+#[test]
+fn damaged_files() {
+    let mut random = Random::new(35);
+    let (mut compared, mut refused) = (0, [0; 21]);
+    for _ in 0..3000 {
+        let card = random::small_card(&mut random);
+        let (mut netlist, mut list) = random::files(&mut random, &card, 2);
+        match random.below(3) {
+            0 => random::damage_netlist(&mut random, &card, &mut netlist),
+            _ => random::damage_list(&mut random, card.inputs, &mut list),
+        }
+        let change = random.pick(&[0, 1, 2, usize::MAX]);
+        let length = random.pick(&[0, card.signals(), 2400]);
+        refused[compare(&netlist, &list, change, length) as usize] += 1;
+        compared += 1;
+    }
+    for number in (1..=18).chain([20]) {
+        assert!(refused[number] > 0, "refusal {number} not met: {refused:?}");
+    }
+    println!("full damaged: {compared} calls compared, by number {refused:?}");
+}

@@ -1,0 +1,253 @@
+//! `lane_list` against the reference: T, V, and every refusal of the netlist
+//! and of the list with its place.
+
+mod met;
+
+use met::Met;
+use reference::cases;
+use reference::changes::{self, check};
+use reference::classes::Class;
+use reference::netlist::Card;
+use reference::random::{self, Random, Shape};
+
+extern "C" {
+    fn lane_list(
+        netlist: *const u8,
+        netlist_len: usize,
+        list: *const u8,
+        list_len: usize,
+        answer: *mut u64,
+    ) -> u32;
+}
+
+/// The library's answer: the refusal number (0 none) and the five values.
+fn library(netlist: &[u8], list: &[u8]) -> (u32, [u64; 5]) {
+    let mut answer = [u64::MAX; 5];
+    // SAFETY: the slices and the five values live through the call.
+    let number = unsafe {
+        lane_list(
+            netlist.as_ptr(),
+            netlist.len(),
+            list.as_ptr(),
+            list.len(),
+            answer.as_mut_ptr(),
+        )
+    };
+    (number, answer)
+}
+
+fn expected(netlist: &[u8], list: &[u8]) -> (u32, [u64; 5]) {
+    match check(netlist, list) {
+        Ok(found) => (0, [found.changes, found.vector, 0, 0, 0]),
+        Err(refused) => (refused.number, [refused.place, 0, 0, 0, 0]),
+    }
+}
+
+fn compare(met: &mut Met, netlist: &[u8], list: &[u8]) {
+    assert_eq!(
+        library(netlist, list),
+        expected(netlist, list),
+        "netlist {:02X?} list {:02X?}",
+        &netlist[..netlist.len().min(200)],
+        &list[..list.len().min(200)]
+    );
+    met.note(check(netlist, list));
+}
+
+/// A card without gates: its list has vectors of any width asked for.
+fn bare(inputs: usize) -> Card {
+    Card {
+        inputs,
+        gates: vec![],
+        outputs: vec![0],
+    }
+}
+
+fn ones(inputs: usize, count: usize) -> Vec<changes::Change> {
+    vec![vec![Class::One; inputs]; count]
+}
+
+#[test]
+fn counts_at_and_past_the_limits() {
+    let mut met = Met::default();
+    for inputs in [1, 7, 8, 9, 255, 256] {
+        let netlist = bare(inputs).to_bytes();
+        for count in [0, 1, 2, 999, 1000, 1001] {
+            let list = changes::to_bytes(&netlist, &ones(inputs, count));
+            compare(&mut met, &netlist, &list);
+            compare(&mut met, &netlist, &list[..list.len() - 1]);
+            let mut longer = list.clone();
+            longer.push(0);
+            compare(&mut met, &netlist, &longer);
+            for written in [0u16, 1, 1000, 1001, 65_535] {
+                let mut other = list.clone();
+                other[9..11].copy_from_slice(&written.to_le_bytes());
+                compare(&mut met, &netlist, &other);
+            }
+        }
+    }
+    met.assert_met(15, 20, 1);
+    met.assert_met(16, 50, 20);
+    met.print("list counts");
+}
+
+#[test]
+fn spare_bits_of_every_width() {
+    let mut met = Met::default();
+    for inputs in 1..=256 {
+        let netlist = bare(inputs).to_bytes();
+        let list = changes::to_bytes(&netlist, &ones(inputs, 3));
+        compare(&mut met, &netlist, &list);
+        for at in changes::HEAD..list.len() {
+            for bit in [0, 6, 7] {
+                let mut flipped = list.clone();
+                flipped[at] ^= 1 << bit;
+                compare(&mut met, &netlist, &flipped);
+            }
+        }
+        // Two bytes with spare bits: the first is the place.
+        let mut filled = list.clone();
+        filled[changes::HEAD..].fill(0xFF);
+        compare(&mut met, &netlist, &filled);
+    }
+    met.assert_met(17, 1000, 100);
+    met.print("list spare bits");
+}
+
+#[test]
+fn cut_at_every_byte() {
+    let mut met = Met::default();
+    let mut random = Random::new(21);
+    let card = random::card(&mut random, Shape::Mixed, 20, 10, 3);
+    let (netlist, list) = random::files(&mut random, &card, 5);
+    for (netlist, list) in [
+        (cases::mux_netlist(), cases::mux_list()),
+        (netlist.clone(), list.clone()),
+    ] {
+        for length in 0..=list.len() {
+            compare(&mut met, &netlist, &list[..length]);
+        }
+        for length in 0..=netlist.len() {
+            compare(&mut met, &netlist[..length], &list);
+        }
+    }
+    met.assert_met(11, 22, 11);
+    met.assert_met(16, 20, 20);
+    met.print("list cuts");
+}
+
+#[test]
+fn every_bit_flipped() {
+    let mut met = Met::default();
+    let mut random = Random::new(22);
+    let card = random::card(&mut random, Shape::Mixed, 11, 3, 2);
+    let (netlist, list) = random::files(&mut random, &card, 2);
+    for (netlist, list) in [(cases::mux_netlist(), cases::mux_list()), (netlist, list)] {
+        for bit in 0..8 * list.len() {
+            let mut flipped = list.clone();
+            flipped[bit / 8] ^= 1 << (bit % 8);
+            compare(&mut met, &netlist, &flipped);
+        }
+        for bit in 0..8 * netlist.len() {
+            let mut flipped = netlist.clone();
+            flipped[bit / 8] ^= 1 << (bit % 8);
+            compare(&mut met, &flipped, &list);
+        }
+    }
+    for number in [12, 13, 14, 15, 16, 17] {
+        met.assert_met(number, 2, 1);
+    }
+    met.print("list bits");
+}
+
+/// A tie that differs in each of its bits, also beyond 16 of them.
+#[test]
+fn ties_of_long_netlists() {
+    let mut met = Met::default();
+    let mut random = Random::new(23);
+    for round in 0..12 {
+        let card = match round {
+            0 => random::widest_card(&mut random),
+            _ => random::any_card(&mut random),
+        };
+        let (netlist, list) = random::files(&mut random, &card, 1);
+        compare(&mut met, &netlist, &list);
+        for bit in 0..32 {
+            let mut other = list.clone();
+            other[5 + bit / 8] ^= 1 << (bit % 8);
+            compare(&mut met, &netlist, &other);
+        }
+    }
+    assert_eq!(met.accepted, 12);
+    met.assert_met(14, 12 * 32, 1);
+    met.print("list ties");
+}
+
+#[test]
+fn empty_and_long() {
+    let mut met = Met::default();
+    let (netlist, list) = (cases::mux_netlist(), cases::mux_list());
+    compare(&mut met, &[], &[]);
+    compare(&mut met, &[], &list);
+    compare(&mut met, &netlist, &[]);
+    for inputs in [3, 256] {
+        let netlist = bare(inputs).to_bytes();
+        for count in [1, 1000] {
+            let list = changes::to_bytes(&netlist, &ones(inputs, count));
+            for length in [65_535, 65_536, 65_537, 100_000] {
+                let mut longer = list.clone();
+                longer.resize(length, 0);
+                compare(&mut met, &netlist, &longer);
+            }
+        }
+    }
+    let mut long_netlist = netlist.clone();
+    long_netlist.resize(70_000, 0);
+    compare(&mut met, &long_netlist, &list);
+    met.assert_met(1, 2, 1);
+    met.assert_met(10, 1, 1);
+    met.print("list lengths");
+}
+
+#[test]
+fn random_lists() {
+    let mut met = Met::default();
+    let mut random = Random::new(24);
+    for round in 0..8000 {
+        let card = match round % 10 {
+            0 => random::any_card(&mut random),
+            _ => random::small_card(&mut random),
+        };
+        let count = random.pick(&[0, 1, 2, 5]);
+        let (mut netlist, mut list) = random::files(&mut random, &card, count);
+        match random.below(6) {
+            0 => {}
+            1 => random::damage_netlist(&mut random, &card, &mut netlist),
+            _ => random::damage_list(&mut random, card.inputs, &mut list),
+        }
+        compare(&mut met, &netlist, &list);
+    }
+    for (number, places) in [
+        (1, 3),
+        (2, 1),
+        (3, 1),
+        (4, 3),
+        (5, 20),
+        (6, 20),
+        (7, 20),
+        (8, 20),
+        (9, 10),
+        (10, 20),
+        (11, 11),
+        (12, 1),
+        (13, 1),
+        (14, 1),
+        (15, 1),
+        (16, 20),
+        (17, 10),
+    ] {
+        met.assert_met(number, 10, places);
+    }
+    assert!(met.accepted >= 1000);
+    met.print("list random");
+}
