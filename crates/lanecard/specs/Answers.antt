@@ -6,6 +6,8 @@ use Rattle.netlist.specs.declared.Checked.{Checked}
 use Rattle.netlist.specs.declared.Checked.the-variants as netlist
 use Rattle.changes.specs.declared.Listed.{Listed}
 use Rattle.changes.specs.declared.Listed.the-variants as list
+use Rattle.core.specs.declared.Cored.{Cored}
+use Rattle.core.specs.declared.Cored.the-variants as core
 use Rattle.simulate.specs.Full.{fullAnswer, fullBuffer}
 use Rattle.simulate.specs.declared.Simulated.{Simulated}
 use Rattle.simulate.specs.declared.Simulated.the-variants as simulate
@@ -38,3 +40,9 @@ pub record Fulled (n l : List ℕ) (change : ℕ) (entry exit : List ℕ) (numbe
   pub number-is : number ≡ simulatedAnswer (fullAnswer n l change entry) .number
   pub words-are : words ≡ simulatedAnswer (fullAnswer n l change entry) .words
   pub bytes-are : exit ≡ fullBuffer n l change entry
+
+-- clean: 0 and the class; hazardous: 1; then gates and pins
+unfoldable pub coredAnswer : Cored → Answer
+coredAnswer (core.Clean class gates pins) = accepted 0 class gates pins 0
+coredAnswer (core.Hazardous gates pins) = accepted 1 0 gates pins 0
+coredAnswer (core.Refused number place) = refused number place

@@ -6,8 +6,10 @@ ghost use Rattle.kung.specs.Rule.{invert};
 ghost use Rattle.kung.specs.Operation.{join, opAt};
 ghost use Rattle.netlist.specs.Netlist.{checked};
 ghost use Rattle.changes.specs.Refusals.{listChecked};
-ghost use Rattle.lanecard.specs.Answers.{netlistAnswer, listAnswer, Fulled};
+ghost use Rattle.core.specs.Core.{coreAnswer};
+ghost use Rattle.lanecard.specs.Answers.{netlistAnswer, listAnswer, Fulled, coredAnswer};
 use changes::Listed;
+use core::Cored;
 use netlist::Checked;
 use simulate::Simulated;
 
@@ -98,6 +100,30 @@ pub extern "C" fn lane_full(
         Simulated::Refused(number, place) => refuse(answer, number, place),
         Simulated::Done => {
             put(answer, 0, 0, 0, 0, 0);
+            0
+        }
+    }
+}
+
+#[no_mangle]
+pub extern "C" fn lane_core(
+    netlist: &[u8],
+    list: &[u8],
+    change: usize,
+    output: usize,
+    answer: &mut [u64; 5],
+) -> u32
+    ensures { λ r. ⌜ (r ≡ coredAnswer (coreAnswer (now (netlist .entry)) (now (list .entry)) change output) .number) × (now (answer .exit) ≡ coredAnswer (coreAnswer (now (netlist .entry)) (now (list .entry)) change output) .words) ⌝ }
+{
+    let cored = core::core(netlist, list, change, output);
+    match cored {
+        Cored::Refused(number, place) => refuse(answer, number, place),
+        Cored::Clean { class, gates, pins } => {
+            put(answer, 0, class as usize, gates, pins, 0);
+            0
+        }
+        Cored::Hazardous { gates, pins } => {
+            put(answer, 1, 0, gates, pins, 0);
             0
         }
     }

@@ -1,0 +1,505 @@
+use borrow.Author.Needs.{needs}
+use Prim.Native.Nat.{ℕ, _+_, _*_, _-_, _≤_, _<_}
+use native.Mathlib.Omega.{arith}
+use mathlib.Core.Path.{_≡_, refl, sym, _∙_, ap, ap₂, subst}
+use lib.ListN.{length, getD}
+use mathlib.Core.List.{List}
+use mathlib.Core.Logic.{⊎-elim}
+use lib.Dec.{ltb}
+use borrow.Author.Tests.{ltb-true}
+use Rattle.kung.specs.Class.{code, ofCode}
+use Rattle.kung.specs.Rule.{kindOf}
+use Rattle.kung.specs.Operation.{opAt, opOf, inverts, join}
+use Rattle.kung.specs.Sets.{possible, wantedFor}
+use Rattle.netlist.specs.Netlist.{kindAt, countAt, pinAt}
+use Rattle.search.specs.Search.{waits, checks}
+use Rattle.core.specs.declared.Ending.{Ending}
+use Rattle.core.specs.declared.Ending.the-variants.{Known}
+use Rattle.core.specs.declared.Check.the-variants.{GoesOn}
+use Rattle.core.specs.declared.Driver.the-variants.{Told, Behind}
+use Rattle.core.specs.Source.{placeFrom, kindFrom, countFrom, pinsFrom}
+use Rattle.core.specs.Found.{waitingOf, checkOf, Takes, Visits}
+use Rattle.core.proofs.Codes.{op-code}
+use Rattle.core.proofs.Sources.{GateOf, gate-of, pin-is, pin-below, searched-there}
+use Rattle.core.proofs.Visits.{Rest, takes-told, takes-behind, behind-searched, rest-first, rest-ends, rest-next, rest-stopped, Goes, goes-left, goes-known, goes-unfinished}
+use borrow.Fn.Kinds.{In}
+use borrow.Fn.PlainCycle.{Measures, is, falls, and}
+use Rattle.core.proofs.take.Reads as take
+use Rattle.core.proofs.take.Kinds as take-kinds
+use Rattle.core.proofs.+take+visit.Lts-take as take-lts
+use Rattle.core.proofs.visit.Reads as visit
+use Rattle.core.proofs.visit.Kinds as visit-kinds
+use Rattle.core.proofs.+take+visit.Lts-visit as visit-lts
+use Rattle.core.proofs.check_gate.Reads as check-gate-reads
+use Rattle.core.proofs.driver_at.Reads as driver-at-reads
+use Rattle.core.proofs.keep.Reads as keep-reads
+use Rattle.core.proofs.operation_of.Reads as operation-of-reads
+use Rattle.core.proofs.place_of.Reads as place-of-reads
+use Rattle.core.proofs.waiter_of.Reads as waiter-of-reads
+use Rattle.core.proofs.wanted_behind.Reads as wanted-behind-reads
+use Rattle.kung.proofs.joined.Reads as joined-reads
+use Rattle.netlist.proofs.count_at.Reads as count-at-reads
+use Rattle.netlist.proofs.kind_at.Reads as kind-at-reads
+use Rattle.netlist.proofs.pin_at.Reads as pin-at-reads
+use Rattle.core.proofs.+take+visit.{statement}
+use Rattle.core.proofs.+take+visit.Tie.{close}
+
+abbrev μ-take : Measures 6 take-kinds.ps ℕ
+μ-take κs a = let s = a .1 .1 .1 .1 .1 .1 .1 .0 in 32 * s + (countFrom (a .1 .1 .0 .now) s - a .1 .1 .1 .1 .1 .1 .1 .1 .1 .0)
+
+abbrev μ-visit : Measures 6 visit-kinds.ps ℕ
+μ-visit κs a = 32 * a .1 .1 .1 .1 .1 .1 .1 .0 + 31
+
+abbrev take-at : ℕ → In 6 take-kinds.ps
+take-at t = and 6 take-kinds.ps (is 6 take-kinds.ps μ-take t) take.Pre
+
+abbrev take-below : ℕ → In 6 take-kinds.ps
+take-below t = and 6 take-kinds.ps (falls 6 take-kinds.ps _<_ μ-take t) take.Pre
+
+abbrev visit-at : ℕ → In 6 visit-kinds.ps
+visit-at t = and 6 visit-kinds.ps (is 6 visit-kinds.ps μ-visit t) visit.Pre
+
+abbrev visit-below : ℕ → In 6 visit-kinds.ps
+visit-below t = and 6 visit-kinds.ps (falls 6 visit-kinds.ps _<_ μ-visit t) visit.Pre
+
+abbrev take-calls : ℕ → take-lts.Claims
+take-calls t = (
+  place-of-reads.Asked,
+  place-of-reads.Learnt,
+  kind-at-reads.Asked,
+  kind-at-reads.Learnt,
+  waiter-of-reads.Asked,
+  waiter-of-reads.Learnt,
+  wanted-behind-reads.Asked,
+  wanted-behind-reads.Learnt,
+  pin-at-reads.Asked,
+  pin-at-reads.Learnt,
+  keep-reads.Asked,
+  keep-reads.Learnt,
+  driver-at-reads.Asked,
+  driver-at-reads.Learnt,
+  visit-below t,
+  visit.Post,
+)
+
+abbrev visit-calls : ℕ → visit-lts.Claims
+visit-calls t = (
+  place-of-reads.Asked,
+  place-of-reads.Learnt,
+  kind-at-reads.Asked,
+  kind-at-reads.Learnt,
+  count-at-reads.Asked,
+  count-at-reads.Learnt,
+  keep-reads.Asked,
+  keep-reads.Learnt,
+  check-gate-reads.Asked,
+  check-gate-reads.Learnt,
+  take-below t,
+  take.Post,
+  operation-of-reads.Asked,
+  operation-of-reads.Learnt,
+  joined-reads.Asked,
+  joined-reads.Learnt,
+)
+
+-- the gate whose pin is taken
+take-gate : (t : ℕ) (c : take-lts.Start (take-calls t) (take-at t) take.Post)
+    → GateOf (c .args .netlist .now) (c .args .places .now) (c .args .inputs) (c .args .s)
+take-gate t c =
+    let a = c .args in gate-of (a .netlist .now) (a .places .now) (a .known .now) (a .inputs) (a .s) (c .pre .1 .0 .indexed) (c .pre .1 .1 .0)
+
+take-few : (t : ℕ) (c : take-lts.Start (take-calls t) (take-at t) take.Post) → c .args .next < 8
+take-few t c = omega (arith, c .pre .1 .0 .few-pins _ (take-gate t c .gate), c .pre .1 .1)
+
+take-place-of-requires : (t : ℕ) → take-lts.Need-place-of-requires (take-calls t) (take-at t) take.Post
+take-place-of-requires t c κs = let g = take-gate t (c .before .before .before .before) in (g .above, g .there)
+
+take-place : (t : ℕ) (c : take-lts.After-place-of (take-calls t) (take-at t) take.Post) → let a = c .before .before .before .before .before .args in
+    c .place-of .result ≡ placeFrom (a .netlist .now) (a .s)
+take-place t c = c .place-of .ensures ∙ take-gate t (c .before .before .before .before .before) .place
+
+take-kind-at-requires : (t : ℕ) → take-lts.Need-kind-at-requires (take-calls t) (take-at t) take.Post
+take-kind-at-requires t c κs = search needs
+
+take-waiter-of-requires : (t : ℕ) → take-lts.Need-waiter-of-requires (take-calls t) (take-at t) take.Post
+take-waiter-of-requires t c κs = search needs
+
+take-wanted-behind-requires : (t : ℕ) → take-lts.Need-wanted-behind-requires (take-calls t) (take-at t) take.Post
+take-wanted-behind-requires t c κs =
+    let s = c .before .before .before .before .before .before .before in (s .pre .1 .0 .wanteds-are, omega (arith, take-few t s))
+
+take-pin-at-requires : (t : ℕ) → take-lts.Need-pin-at-requires (take-calls t) (take-at t) take.Post
+take-pin-at-requires t c κs = search needs
+
+take-cast-x : (t : ℕ) → take-lts.Need-cast-x (take-calls t) (take-at t) take.Post
+take-cast-x t c = search needs
+
+-- the signal that the pin is on
+take-on : (t : ℕ) (c : take-lts.After-pin-at (take-calls t) (take-at t) take.Post)
+    → let a = c .before .before .before .before .before .before .before .before .before .args in
+    c .pin-at .result ≡ getD (pinsFrom (a .netlist .now) (a .s)) (a .next) 0
+take-on t c =
+    let s = c .before .before .before .before .before .before .before .before .before in
+    let a = s .args in
+    c .pin-at .ensures ∙ ap (λ p. pinAt (a .netlist .now) p (a .next)) (take-place t (c .before .before .before .before))
+    ∙ pin-is (a .netlist .now) (a .s) (a .next) (s .pre .1 .1 .2)
+
+take-lower : (t : ℕ) (c : take-lts.After-pin-at (take-calls t) (take-at t) take.Post)
+    → c .pin-at .result < c .before .before .before .before .before .before .before .before .before .args .s
+take-lower t c =
+    let s = c .before .before .before .before .before .before .before .before .before in
+    let a = s .args in
+    let g = take-gate t s in
+    omega (
+      arith,
+      take-on t c,
+      pin-below (a .netlist .now) (a .s) (a .next) (s .pre .1 .0 .well-formed) (omega (arith, g .above, s .pre .1 .0 .indexed .inputs-are)) (g .gate) (s .pre .1 .1 .2),
+    )
+
+take-add-keep : (t : ℕ) → take-lts.Need-add-keep (take-calls t) (take-at t) take.Post
+take-add-keep t c = omega (arith, take-few t (c .before .before .before .before .before .before .before .before .before .before))
+
+take-keep-requires : (t : ℕ) → take-lts.Need-keep-requires (take-calls t) (take-at t) take.Post
+take-keep-requires t c κs =
+    let s = c .before .before .before .before .before .before .before .before .before .before in
+    (s .pre .1 .1 .1, omega (arith, take-few t s))
+
+take-driver-at-requires : (t : ℕ) → take-lts.Need-driver-at-requires (take-calls t) (take-at t) take.Post
+take-driver-at-requires t c κs =
+    let x = c .before .before .before .before .before in
+    let s = x .before .before .before .before .before .before .before .before .before in
+    let less = take-lower t x in (
+      s .pre .1 .0 .images-are,
+      (
+        s .pre .1 .0 .indexed,
+        (
+          omega (arith, searched-there (s .args .known .now) (s .args .s) (s .pre .1 .1 .0)),
+          omega (arith, s .pre .1 .1, c .before .before .before .keep .kept .0),
+        ),
+      ),
+    )
+
+take-enum-known-driver : (t : ℕ) → take-lts.Need-enum-known-driver (take-calls t) (take-at t) take.Post
+take-enum-known-driver t c = search needs
+
+take-enum-known-driver-2 : (t : ℕ) → take-lts.Need-enum-known-driver-2 (take-calls t) (take-at t) take.Post
+take-enum-known-driver-2 t c = search needs
+
+module _ (t : ℕ) (c : take-lts.After-driver-at (take-calls t) (take-at t) take.Post) where
+  abbrev pin : take-lts.After-pin-at (take-calls t) (take-at t) take.Post
+  pin = c .before .before .before .before .before .before
+
+  abbrev begun : take-lts.Start (take-calls t) (take-at t) take.Post
+  begun = pin .before .before .before .before .before .before .before .before .before
+
+  abbrev cells : List ℕ
+  cells = c .before .before .before .before .keep .last .0
+
+  take-waits : waitingOf (pin .before .before .waiter-of .result) ≡ waits (opOf (kindFrom (begun .args .netlist .now) (begun .args .s))) (ofCode (begun .args .p))
+  take-waits =
+      pin .before .before .waiter-of .ensures
+      ∙ ap (λ k. waits (opOf (kindOf k)) (ofCode (begun .args .p)))
+      (pin .before .before .before .kind-at .ensures ∙ ap (kindAt (begun .args .netlist .now)) (take-place t (pin .before .before .before .before)))
+
+  take-wants : pin .before .wanted-behind .result
+      ≡ wantedFor (opOf (kindFrom (begun .args .netlist .now) (begun .args .s))) (inverts (kindFrom (begun .args .netlist .now) (begun .args .s)))
+      (ofCode (begun .args .p)) (ltb (begun .args .next + 1) (countFrom (begun .args .netlist .now) (begun .args .s))) (begun .args .wanted)
+  take-wants =
+      pin .before .wanted-behind .ensures
+      ∙ ap (λ q. wantedFor (opOf (kindOf (kindAt (begun .args .netlist .now) q))) (inverts (kindOf (kindAt (begun .args .netlist .now) q)))
+      (ofCode (begun .args .p)) (ltb (begun .args .next + 1) (countAt (begun .args .netlist .now) q)) (begun .args .wanted)) (take-place t (pin .before .before .before .before))
+
+  take-told : (k : ℕ) → c .driver-at .result ≡ Told k
+      → Takes (begun .args .netlist .now) (begun .args .known .now) (begun .args .s) (begun .args .p) (begun .args .next) (begun .args .wanted)
+      (begun .args .cells .now) cells (Known k)
+  take-told k e =
+      let a = begun .args in
+      takes-told (a .netlist .now) (a .known .now) (a .s) (a .p) (a .next) (a .wanted) (a .cells .now) (pin .pin-at .result)
+      (pin .before .wanted-behind .result) (pin .before .before .waiter-of .result) cells (take-on t pin) take-wants take-waits
+      (c .before .before .before .before .keep .ensures) k (sym e ∙ c .driver-at .ensures)
+
+  take-behind : (from first : ℕ) → c .driver-at .result ≡ Behind from first → (exit : List ℕ) (r : Ending)
+      → Visits (begun .args .netlist .now) (begun .args .known .now) (pin .pin-at .result) from first (pin .before .wanted-behind .result)
+      (pin .before .before .waiter-of .result) cells exit r
+      → Takes (begun .args .netlist .now) (begun .args .known .now) (begun .args .s) (begun .args .p) (begun .args .next) (begun .args .wanted)
+      (begun .args .cells .now) exit r
+  take-behind from first e =
+      let a = begun .args in
+      takes-behind (a .netlist .now) (a .known .now) (a .s) (a .p) (a .next) (a .wanted) (a .cells .now) (pin .pin-at .result)
+      (pin .before .wanted-behind .result) (pin .before .before .waiter-of .result) cells (take-on t pin) take-wants take-waits
+      (c .before .before .before .before .keep .ensures) from first (sym e ∙ c .driver-at .ensures) (take-lower t pin)
+
+  take-searched : (from first : ℕ) → c .driver-at .result ≡ Behind from first → (8 ≤ getD (begun .args .known .now) (pin .pin-at .result) 0) × (first < 16)
+  take-searched from first e =
+      behind-searched (begun .args .netlist .now) (begun .args .known .now) (pin .pin-at .result) cells from first
+      (omega (arith, c .before .before .slice-known2 .given (pin .pin-at .result))) (sym e ∙ c .driver-at .ensures)
+
+take-visit-requires : (t : ℕ) → take-lts.Need-visit-requires (take-calls t) (take-at t) take.Post
+take-visit-requires t c κs =
+    let d = c .before .before .before .before in
+    let s = begun t d in
+    let less = take-lower t (pin t d) in
+    let searched = take-searched t d _ _ (c .before .before .driver2 .given .1) in
+    (omega (arith, s .pre .0), (s .pre .1 .0, (searched .0, omega (arith, s .pre .1 .1, d .before .before .before .before .keep .kept .0), searched .1)))
+
+take-same-length : (t : ℕ) → take-lts.Need-same-length (take-calls t) (take-at t) take.Post
+take-same-length t c = search needs
+
+take-returns : (t : ℕ) → take-lts.Need-returns (take-calls t) (take-at t) take.Post
+take-returns t c = take-told t (c .before .before .before) _ (c .before .driver .given .1)
+
+take-same-length-2 : (t : ℕ) → take-lts.Need-same-length-2 (take-calls t) (take-at t) take.Post
+take-same-length-2 t c = search needs
+
+take-returns-2 : (t : ℕ) → take-lts.Need-returns-2 (take-calls t) (take-at t) take.Post
+take-returns-2 t c =
+    let v = c .before .before in
+    let d = v .before .before .before .before .before in
+    take-behind t d _ _ (v .before .before .before .driver2 .given .1) _ _ (v .visit .ensures)
+
+abbrev visit-Inv-loop : visit-lts.InvT-loop
+visit-Inv-loop images wanteds netlist places known cells₀ inputs s from first wanted waiter place kind count p₀ next₀ cells p next =
+    (s < length cells) × (length cells ≡ length cells₀) × Rest netlist known s wanted waiter from first cells₀ p next cells
+
+abbrev visit-μ-loop : visit-lts.MeasureT-loop
+visit-μ-loop images wanteds netlist places known cells₀ inputs s from first wanted waiter place kind count p₀ next₀ cells p next =
+    count - next
+
+-- the gate that is visited
+visit-gate : (t : ℕ) (c : visit-lts.Start (visit-calls t) (visit-at t) visit.Post visit-Inv-loop visit-μ-loop)
+    → GateOf (c .args .netlist .now) (c .args .places .now) (c .args .inputs) (c .args .s)
+visit-gate t c =
+    let a = c .args in gate-of (a .netlist .now) (a .places .now) (a .known .now) (a .inputs) (a .s) (c .pre .1 .0 .indexed) (c .pre .1 .1 .0)
+
+visit-place-of-requires : (t : ℕ) → visit-lts.Need-place-of-requires (visit-calls t) (visit-at t) visit.Post visit-Inv-loop visit-μ-loop
+visit-place-of-requires t c κs = let g = visit-gate t (c .before .before .before .before) in (g .above, g .there)
+
+visit-kind-at-requires : (t : ℕ) → visit-lts.Need-kind-at-requires (visit-calls t) (visit-at t) visit.Post visit-Inv-loop visit-μ-loop
+visit-kind-at-requires t c κs = search needs
+
+visit-count-at-requires : (t : ℕ) → visit-lts.Need-count-at-requires (visit-calls t) (visit-at t) visit.Post visit-Inv-loop visit-μ-loop
+visit-count-at-requires t c κs = search needs
+
+visit-keep-requires : (t : ℕ) → visit-lts.Need-keep-requires (visit-calls t) (visit-at t) visit.Post visit-Inv-loop visit-μ-loop
+visit-keep-requires t c κs = search needs
+
+visit-loop-holds : (t : ℕ) → visit-lts.Need-loop-holds (visit-calls t) (visit-at t) visit.Post visit-Inv-loop visit-μ-loop
+visit-loop-holds t c =
+    let k = c .before .before in
+    let s = k .before .before .before .before .before .before .before .before .before in
+    let a = s .args in
+    (omega (arith, k .keep .kept .0, s .pre .1 .1 .1), refl, rest-first (a .netlist .now) (a .known .now) (a .s) (a .wanted) (a .waiter) (a .from) (a .first) (k .keep .last .0))
+
+module _ (t : ℕ) (c : visit-lts.After-check-gate (visit-calls t) (visit-at t) visit.Post visit-Inv-loop visit-μ-loop) where
+  abbrev kept-at : visit-lts.After-keep (visit-calls t) (visit-at t) visit.Post visit-Inv-loop visit-μ-loop
+  kept-at = c .before .before .before .before
+
+  abbrev counted : visit-lts.After-count-at (visit-calls t) (visit-at t) visit.Post visit-Inv-loop visit-μ-loop
+  counted = kept-at .before .before
+
+  abbrev entered : visit-lts.Start (visit-calls t) (visit-at t) visit.Post visit-Inv-loop visit-μ-loop
+  entered = counted .before .before .before .before .before .before .before
+
+  place-is : counted .before .before .place-of .result ≡ placeFrom (entered .args .netlist .now) (entered .args .s)
+  place-is = counted .before .before .place-of .ensures ∙ visit-gate t entered .place
+
+  kind-is : counted .before .kind-at .result ≡ kindAt (entered .args .netlist .now) (placeFrom (entered .args .netlist .now) (entered .args .s))
+  kind-is = counted .before .kind-at .ensures ∙ ap (kindAt (entered .args .netlist .now)) place-is
+
+  count-is : counted .count-at .result ≡ countFrom (entered .args .netlist .now) (entered .args .s)
+  count-is = counted .count-at .ensures ∙ ap (countAt (entered .args .netlist .now)) place-is
+
+  checked : c .check-gate .result
+      ≡ checkOf
+      (checks
+      (possible (opOf (kindFrom (entered .args .netlist .now) (entered .args .s))) (inverts (kindFrom (entered .args .netlist .now) (entered .args .s)))
+      (ofCode (c .before .loop .p)) (ltb (c .before .loop .next) (countFrom (entered .args .netlist .now) (entered .args .s))))
+      (entered .args .wanted) (waitingOf (entered .args .waiter)))
+  checked =
+      c .check-gate .ensures
+      ∙ ap₂ (λ k n.
+      checkOf
+      (checks (possible (opOf (kindOf k)) (inverts (kindOf k)) (ofCode (c .before .loop .p)) (ltb (c .before .loop .next) n)) (entered .args .wanted)
+      (waitingOf (entered .args .waiter)))) kind-is count-is
+
+  -- a pin is left where the checks go on
+  pin-left : c .check-gate .result ≡ GoesOn → c .before .loop .next < countFrom (entered .args .netlist .now) (entered .args .s)
+  pin-left e =
+      ltb-true _ _
+      (goes-left (kindFrom (entered .args .netlist .now) (entered .args .s)) (ofCode (c .before .loop .p))
+      (ltb (c .before .loop .next) (countFrom (entered .args .netlist .now) (entered .args .s))) (entered .args .wanted)
+      (waitingOf (entered .args .waiter)) (sym e ∙ checked))
+
+  few : countFrom (entered .args .netlist .now) (entered .args .s) ≤ 8
+  few = entered .pre .1 .0 .few-pins _ (visit-gate t entered .gate)
+
+visit-check-gate-requires : (t : ℕ) → visit-lts.Need-check-gate-requires (visit-calls t) (visit-at t) visit.Post visit-Inv-loop visit-μ-loop
+visit-check-gate-requires t c κs = search needs
+
+visit-enum-known-check : (t : ℕ) → visit-lts.Need-enum-known-check (visit-calls t) (visit-at t) visit.Post visit-Inv-loop visit-μ-loop
+visit-enum-known-check t c = search needs
+
+visit-same-length : (t : ℕ) → visit-lts.Need-same-length (visit-calls t) (visit-at t) visit.Post visit-Inv-loop visit-μ-loop
+visit-same-length t c = search needs
+
+visit-returns : (t : ℕ) → visit-lts.Need-returns (visit-calls t) (visit-at t) visit.Post visit-Inv-loop visit-μ-loop
+visit-returns t c =
+    let g = c .before .before .before in
+    let s = entered t g in
+    let a = s .args in
+    let l = g .before .loop in
+    rest-ends (a .netlist .now) (a .known .now) (a .s) (a .wanted) (a .waiter) (a .from) (a .first) (kept-at t g .keep .last .0) (l .p) (l .next) (l .cells)
+    (l .inv .2) (a .cells .now) (s .pre .1 .1 .0) (kept-at t g .keep .ensures) _ (sym (c .before .check .given .1) ∙ checked t g)
+
+visit-enum-told : (t : ℕ) → visit-lts.Need-enum-told (visit-calls t) (visit-at t) visit.Post visit-Inv-loop visit-μ-loop
+visit-enum-told t c = search needs
+
+visit-take-requires : (t : ℕ) → visit-lts.Need-take-requires (visit-calls t) (visit-at t) visit.Post visit-Inv-loop visit-μ-loop
+visit-take-requires t c κs =
+    let g = c .before .before .before in
+    let s = entered t g in
+    let less = pin-left t g (c .before .enum-told .given .1) in
+    (omega (arith, s .pre .0, few t g), (s .pre .1 .0, (s .pre .1 .1 .0, g .before .loop .inv .0, less)))
+
+-- after a pin was taken
+module _ (t : ℕ) (c : visit-lts.After-take (visit-calls t) (visit-at t) visit.Post visit-Inv-loop visit-μ-loop) where
+  abbrev checking : visit-lts.After-check-gate (visit-calls t) (visit-at t) visit.Post visit-Inv-loop visit-μ-loop
+  checking = c .before .before .before .before
+
+  on : c .before .before .before .before .check-gate .result ≡ GoesOn
+  on = c .before .before .enum-told .given .1
+
+visit-enum-told-2 : (t : ℕ) → visit-lts.Need-enum-told-2 (visit-calls t) (visit-at t) visit.Post visit-Inv-loop visit-μ-loop
+visit-enum-told-2 t c = search needs
+
+visit-same-length-2 : (t : ℕ) → visit-lts.Need-same-length-2 (visit-calls t) (visit-at t) visit.Post visit-Inv-loop visit-μ-loop
+visit-same-length-2 t c = search needs
+
+visit-returns-2 : (t : ℕ) → visit-lts.Need-returns-2 (visit-calls t) (visit-at t) visit.Post visit-Inv-loop visit-μ-loop
+visit-returns-2 t c =
+    let k = c .before .before .before .before in
+    let g = checking t k in
+    let s = entered t g in
+    let a = s .args in
+    let l = g .before .loop in
+    rest-stopped (a .netlist .now) (a .known .now) (a .s) (a .wanted) (a .waiter) (a .from) (a .first) (kept-at t g .keep .last .0) (l .p) (l .next) (l .cells)
+    (l .inv .2) (sym (on t k) ∙ checked t g) (pin-left t g (on t k)) (k .take .last .1 .1 .1 .1 .1 .0)
+    (subst (Takes (a .netlist .now) (a .known .now) (a .s) (l .p) (l .next) (a .wanted) (l .cells) (k .take .last .1 .1 .1 .1 .1 .0)) (c .enum-told2 .given .1) (k .take .ensures))
+    (a .cells .now) (s .pre .1 .1 .0) (kept-at t g .keep .ensures)
+
+visit-enum-known-ended : (t : ℕ) → visit-lts.Need-enum-known-ended (visit-calls t) (visit-at t) visit.Post visit-Inv-loop visit-μ-loop
+visit-enum-known-ended t c = search needs
+
+visit-operation-of-requires : (t : ℕ) → visit-lts.Need-operation-of-requires (visit-calls t) (visit-at t) visit.Post visit-Inv-loop visit-μ-loop
+visit-operation-of-requires t c κs = search needs
+
+visit-joined-requires : (t : ℕ) → visit-lts.Need-joined-requires (visit-calls t) (visit-at t) visit.Post visit-Inv-loop visit-μ-loop
+visit-joined-requires t c κs =
+    entered t (checking t (c .before .before .before .before .before .before)) .pre .1 .0 .images-are
+
+visit-enum-known-ended-2 : (t : ℕ) → visit-lts.Need-enum-known-ended-2 (visit-calls t) (visit-at t) visit.Post visit-Inv-loop visit-μ-loop
+visit-enum-known-ended-2 t c = search needs
+
+visit-goes : (t : ℕ) (c : visit-lts.At-match2-came (visit-calls t) (visit-at t) visit.Post visit-Inv-loop visit-μ-loop) → let k = c .before .before .before in
+    let a = entered t (checking t k) .args in
+    Goes (k .take .result) (kindFrom (a .netlist .now) (a .s)) (checking t k .before .loop .p) (c .match2 .p)
+visit-goes t c =
+    let k = c .before .before .before in
+    let g = checking t k in
+    let a = entered t g .args in
+    let d = kindFrom (a .netlist .now) (a .s) in
+    let p = g .before .loop .p in
+    ⊎-elim
+    (λ w.
+    subst (λ r. Goes r d p (c .match2 .p)) (sym (w .1 .given .1))
+    (goes-known d p (c .match2 .p) (w .1 .given .0 .0)
+    (w .5 ∙ w .4 .ensures
+    ∙ ap (λ o. code (join o (ofCode p) (ofCode (w .1 .given .0 .0))))
+    (ap opAt (w .3 .ensures) ∙ op-code _ ∙ ap (λ k. opOf (kindOf k)) (kind-is t g)))))
+    (λ w. subst (λ r. Goes r d p (c .match2 .p)) (sym (w .1 .given .1)) (goes-unfinished d p (c .match2 .p) (w .1 .given .0 .0) (w .3)))
+    (c .match2 .came)
+
+visit-add-next : (t : ℕ) → visit-lts.Need-add-next (visit-calls t) (visit-at t) visit.Post visit-Inv-loop visit-μ-loop
+visit-add-next t c =
+    let k = c .before .before .before in
+    let g = checking t k in
+    omega (arith, pin-left t g (on t k), few t g)
+
+visit-keep-requires-2 : (t : ℕ) → visit-lts.Need-keep-requires-2 (visit-calls t) (visit-at t) visit.Post visit-Inv-loop visit-μ-loop
+visit-keep-requires-2 t c κs =
+    let k = c .before .before .before .before in
+    let g = checking t k in
+    (omega (arith, g .before .loop .inv .0, k .take .kept .1 .1 .1 .1 .1 .0), omega (arith, pin-left t g (on t k), few t g))
+
+visit-loop-less : (t : ℕ) → visit-lts.Need-loop-less (visit-calls t) (visit-at t) visit.Post visit-Inv-loop visit-μ-loop
+visit-loop-less t c =
+    let k = c .before .before .before .before .before .before .before in
+    let g = checking t k in
+    omega (arith, pin-left t g (on t k), count-is t g)
+
+visit-loop-again : (t : ℕ) → visit-lts.Need-loop-again (visit-calls t) (visit-at t) visit.Post visit-Inv-loop visit-μ-loop
+visit-loop-again t c =
+    let e = c .before .before in
+    let m = e .before .before in
+    let k = m .before .before .before in
+    let g = checking t k in
+    let s = entered t g in
+    let a = s .args in
+    let l = g .before .loop in
+    let same : length (e .keep2 .last .0) ≡ length (l .cells) = e .keep2 .kept .0 ∙ k .take .kept .1 .1 .1 .1 .1 .0 in (
+      omega (arith, same, l .inv .0),
+      same ∙ l .inv .1,
+      subst (Rest (a .netlist .now) (a .known .now) (a .s) (a .wanted) (a .waiter) (a .from) (a .first) (kept-at t g .keep .last .0) (m .match2 .p) (l .next + 1))
+          (sym (e .keep2 .ensures))
+          (rest-next (a .netlist .now) (a .known .now) (a .s) (a .wanted) (a .waiter) (a .from) (a .first) (kept-at t g .keep .last .0) (l .p) (l .next) (l .cells)
+          (l .inv .2) (sym (on t k) ∙ checked t g) (pin-left t g (on t k)) (k .take .result) (k .take .last .1 .1 .1 .1 .1 .0) (k .take .ensures) (m .match2 .p)
+          (visit-goes t m)),
+    )
+
+pub +take+visit-spec : {M : Type 1} → statement M
++take+visit-spec = close μ-take μ-visit (λ t. take-lts.spec (take-calls t)
+    (take-at t)
+    take.Post
+    (take-place-of-requires t)
+    (take-kind-at-requires t)
+    (take-waiter-of-requires t)
+    (take-wanted-behind-requires t)
+    (take-pin-at-requires t)
+    (take-cast-x t)
+    (take-add-keep t)
+    (take-keep-requires t)
+    (take-driver-at-requires t)
+    (take-enum-known-driver t)
+    (take-enum-known-driver-2 t)
+    (take-visit-requires t)
+    (take-same-length t)
+    (take-returns t)
+    (take-same-length-2 t)
+    (take-returns-2 t))
+    λ t. visit-lts.spec (visit-calls t)
+    (visit-at t)
+    visit.Post
+    visit-Inv-loop
+    visit-μ-loop
+    (visit-place-of-requires t)
+    (visit-kind-at-requires t)
+    (visit-count-at-requires t)
+    (visit-keep-requires t)
+    (visit-loop-holds t)
+    (visit-check-gate-requires t)
+    (visit-enum-known-check t)
+    (visit-same-length t)
+    (visit-returns t)
+    (visit-enum-told t)
+    (visit-take-requires t)
+    (visit-enum-told-2 t)
+    (visit-same-length-2 t)
+    (visit-returns-2 t)
+    (visit-enum-known-ended t)
+    (visit-operation-of-requires t)
+    (visit-joined-requires t)
+    (visit-enum-known-ended-2 t)
+    (visit-add-next t)
+    (visit-keep-requires-2 t)
+    (visit-loop-less t)
+    (visit-loop-again t)

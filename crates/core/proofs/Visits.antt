@@ -1,0 +1,213 @@
+-- The steps of a visit and of taking a pin, as the code makes them. Assumes nothing.
+use Prim.Native.Nat.{ℕ, zero, suc, _+_, _≤_, _<_}
+use native.Mathlib.Omega.{arith}
+use native.Mathlib.Numerals.{add-one}
+use mathlib.Core.Path.{_≡_, refl, sym, _∙_, ap}
+use mathlib.Core.Bool.{Bool, true, false, cond}
+use mathlib.Core.List.{List}
+use mathlib.Core.Option.{Option, none, some}
+use lib.Dec.{ltb}
+use lib.ListN.{length, getD, drop}
+use borrow.Author.Tests.{ltb-false}
+use Rattle.kung.specs.Class.{Class, code, ofCode}
+use Rattle.kung.specs.Rule.{Kind, kindOf}
+use Rattle.kung.specs.Operation.{opOf, inverts, invertIf, join}
+use Rattle.kung.specs.Sets.{meets, possible, wantedFor}
+use Rattle.kung.proofs.Finite.{ofCode-code}
+use Rattle.circuit.specs.Circuit.{Source, given, gate}
+use Rattle.netlist.specs.Words.{wordsAt}
+use Rattle.netlist.specs.Netlist.{kindAt, countAt, pinAt}
+use Rattle.netlist.proofs.Laws.{words-length, words-at}
+use Rattle.search.specs.Search.{new, kept, nextOf, cellOf, cellAt, put, possibleOf, pinsLeft, only, Waiting, waits, Outcome, stopped, known, unfinished, sameResult, knownOr, checks, Driver, told, behind, driverOf, toldOr, Ended, Visit, fetch, react, takePin, takePins, visit}
+use Rattle.search.proofs.Laws.{only-last}
+use Rattle.search.proofs.Steps.{left-is, visit-gate, pins-end, pins-step}
+use Rattle.core.specs.declared.Ending.{Ending}
+use Rattle.core.specs.declared.Ending.the-variants.{Stopped, Known, Unfinished}
+use Rattle.core.specs.declared.Check.the-variants.{Ends, GoesOn}
+use Rattle.core.specs.declared.Driver.the-variants.{Told, Behind}
+use Rattle.core.specs.Source.{placeFrom, kindFrom, countFrom, pinsFrom, sourceFrom}
+use Rattle.core.specs.Found.{waitingOf, endingOf, checkOf, driverCode, endedOf, takeNext, Visits, Takes}
+use Rattle.core.proofs.Sources.{source-gate}
+
+-- the outcome of which the code tells
+abbrev outcomeFrom : Ending → Outcome
+outcomeFrom Stopped = stopped
+outcomeFrom (Known k) = known (ofCode k)
+outcomeFrom (Unfinished r) = unfinished (ofCode r)
+
+outcome-back : (e : Outcome) → outcomeFrom (endingOf e) ≡ e
+outcome-back stopped = refl
+outcome-back (known k) = ap known (ofCode-code k)
+outcome-back (unfinished r) = ap unfinished (ofCode-code r)
+
+ended-back : (e : Ended) (r : Ending) (after : List ℕ) → (r, after) ≡ endedOf e → e ≡ (outcomeFrom r, after)
+ended-back e r after h =
+    λ i. ((sym (outcome-back (e .0)) ∙ ap outcomeFrom (sym (ap (λ x. x .0) h))) i, sym (ap (λ x. x .1) h) i)
+
+-- what the checks' answer says of them
+check-ends : (o : Option Outcome) (r : Ending) → Ends r ≡ checkOf o → (e : Outcome) × (o ≡ some e) × (r ≡ endingOf e)
+check-ends (some e) r h = (e, refl, cc)
+check-ends none r h = let z : _≡_ {A = ℕ} 0 1 = cc in absurd (omega arith)
+
+check-none : (o : Option Outcome) → GoesOn ≡ checkOf o → o ≡ none
+check-none (some e) h = let z : _≡_ {A = ℕ} 0 1 = cc in absurd (omega arith)
+check-none none h = refl
+
+-- where no pin is left the checks end the visit
+none-left : (d : Kind) (p : Class) (w : ℕ) (wt : Waiting) → checks (possible (opOf d) (inverts d) p false) w wt ≡ none → ⊥
+unfolding checks possibleOf
+none-left d p w wt = rw (only-last d p) (go (meets (possible (opOf d) (inverts d) p false) w) (invertIf (inverts d) p) (sameResult wt (possible (opOf d) (inverts d) p false)))
+  where
+    go : (b : Bool) (k : Class) (r : Option Class) → cond b (knownOr (some k) r) (some stopped) ≡ none → ⊥
+    go true k r h = let z : _≡_ {A = ℕ} 0 1 = cc in absurd (omega arith)
+    go false k r h = let z : _≡_ {A = ℕ} 0 1 = cc in absurd (omega arith)
+
+pub goes-left : (d : Kind) (p : Class) (left : Bool) (w : ℕ) (wt : Waiting) → GoesOn ≡ checkOf (checks (possible (opOf d) (inverts d) p left) w wt) → left ≡ true
+goes-left d p true w wt h = refl
+goes-left d p false w wt h = absurd (none-left d p w wt (check-none _ h))
+
+-- the possible set of a gate whose pins are counted
+counted-set : (netlist : List ℕ) (s : ℕ) (p : Class) (next : ℕ)
+    → possibleOf (kindFrom netlist s) p (drop next (pinsFrom netlist s))
+    ≡ possible (opOf (kindFrom netlist s)) (inverts (kindFrom netlist s)) p (ltb next (countFrom netlist s))
+unfolding possibleOf
+counted-set netlist s p next = rw (left-is next (pinsFrom netlist s), words-length (countFrom netlist s) netlist (placeFrom netlist s + 2))
+
+-- the waiting gate goes on with q after a pin
+pub record Goes (r : Ending) (d : Kind) (p q : ℕ) : Type 0 where
+  is : (after : List ℕ) (goOn : Class → List ℕ → Ended) → react (outcomeFrom r) after (opOf d) (ofCode p) goOn ≡ goOn (ofCode q) after
+
+pub goes-known : (d : Kind) (p q k : ℕ) → q ≡ code (join (opOf d) (ofCode p) (ofCode k)) → Goes (Known k) d p q
+goes-known d p q k e = record { is = λ after goOn. ap (λ c. goOn c after) (sym (ap ofCode e ∙ ofCode-code _)) }
+
+pub goes-unfinished : (d : Kind) (p q r : ℕ) → q ≡ r → Goes (Unfinished r) d p q
+goes-unfinished d p q r e = record { is = λ after goOn. ap (λ c. goOn (ofCode c) after) (sym e) }
+
+-- A gate's pins from `next` on, as the definition takes them.
+abbrev leftOf : (netlist known : List ℕ) (s w waiter n p next : ℕ) → List ℕ → Ended
+leftOf netlist codes s w waiter n p next cells =
+    takePins (sourceFrom netlist codes) (visit (sourceFrom netlist codes) n) (kindFrom netlist s) s w (waitingOf waiter) (drop next (pinsFrom netlist s))
+    (ofCode p) next cells
+
+-- what is left of a visit is the whole visit
+pub record Rest (netlist known : List ℕ) (s w waiter from first : ℕ) (cells₀ : List ℕ) (p next : ℕ) (cells : List ℕ) : Type 0 where
+  is : (n : ℕ) → s ≤ n → leftOf netlist known s w waiter n p next cells ≡ leftOf netlist known s w waiter n from first cells₀
+
+pub rest-first : (netlist known : List ℕ) (s w waiter from first : ℕ) (cells : List ℕ) → Rest netlist known s w waiter from first cells from first cells
+rest-first netlist codes s w waiter from first cells = record { is = λ n h. refl }
+
+module _ (netlist known : List ℕ) (s w waiter from first : ℕ) (cells₀ : List ℕ) (p next : ℕ) (cells : List ℕ)
+    (rest : Rest netlist known s w waiter from first cells₀ p next cells) where
+  -- the gate's checks
+  abbrev Found : Option Outcome
+  Found = checks (possible (opOf (kindFrom netlist s)) (inverts (kindFrom netlist s)) (ofCode p) (ltb next (countFrom netlist s))) w (waitingOf waiter)
+
+  -- what ends the rest ends the visit
+  ends : (entry : List ℕ) → 8 ≤ getD known s 0 → cells₀ ≡ put entry s (kept (ofCode from) first) → (after : List ℕ) (r : Ending)
+      → ((n : ℕ) → s ≤ n → (r, after) ≡ endedOf (leftOf netlist known s w waiter n p next cells)) → Visits netlist known s from first w waiter entry after r
+  ends entry searched begun after r e = record { is = is }
+    where
+      is : (n : ℕ) → s < n → (r, after) ≡ endedOf (visit (sourceFrom netlist known) n s (ofCode from) first w (waitingOf waiter) entry)
+      is zero less = absurd (omega arith)
+      is (suc n) less =
+          e n (omega arith)
+          ∙ ap endedOf
+          (rest .is n (omega arith) ∙ ap (leftOf netlist known s w waiter n from first) begun
+          ∙ sym
+          (visit-gate (sourceFrom netlist known) n s (kindFrom netlist s) (pinsFrom netlist s) (ofCode from) first w (waitingOf waiter) entry
+          (source-gate netlist known s searched)))
+
+  pub rest-ends : (entry : List ℕ) → 8 ≤ getD known s 0 → cells₀ ≡ put entry s (kept (ofCode from) first) → (r : Ending) → Ends r ≡ checkOf Found
+      → Visits netlist known s from first w waiter entry cells r
+  rest-ends entry searched begun r h =
+      let found = check-ends Found r h in
+      ends entry searched begun cells r
+      (λ n less.
+      ap (λ r. (r, cells)) (found .2)
+      ∙ ap endedOf
+      (sym
+      (pins-end (sourceFrom netlist known) (visit (sourceFrom netlist known) n) (kindFrom netlist s) s w (waitingOf waiter)
+      (drop next (pinsFrom netlist s)) (ofCode p) next cells (found .0) (rw (counted-set netlist s (ofCode p) next) (found .1)))))
+
+  module _ (on : GoesOn ≡ checkOf Found) (less : next < countFrom netlist s) (r : Ending) (after : List ℕ)
+      (takes : Takes netlist known s p next w cells after r) where
+    taken : (n : ℕ) → s ≤ n
+        → leftOf netlist known s w waiter n p next cells
+        ≡ react (outcomeFrom r) after (opOf (kindFrom netlist s)) (ofCode p)
+        (λ q c.
+        takePins (sourceFrom netlist known) (visit (sourceFrom netlist known) n) (kindFrom netlist s) s w (waitingOf waiter)
+        (drop (suc next) (pinsFrom netlist s)) q (suc next) (put c s (kept q (suc next))))
+    unfolding takeNext
+    taken n h =
+        pins-step (sourceFrom netlist known) (visit (sourceFrom netlist known) n) (kindFrom netlist s) s w (waitingOf waiter)
+        (pinsFrom netlist s) (ofCode p) next cells (outcomeFrom r) after (rw words-length less)
+        (rw (counted-set netlist s (ofCode p) next) (check-none _ on)) (ended-back _ r after (takes .is n h))
+
+    pub rest-next : (q : ℕ) → Goes r (kindFrom netlist s) p q
+        → Rest netlist known s w waiter from first cells₀ q (next + 1) (put after s (kept (ofCode q) (next + 1)))
+    rest-next q goes = record { is = λ n h. rw (add-one next) (sym (goes .is after _) ∙ sym (taken n h) ∙ rest .is n h) }
+
+  pub rest-stopped : GoesOn ≡ checkOf Found → next < countFrom netlist s → (after : List ℕ) → Takes netlist known s p next w cells after Stopped
+      → (entry : List ℕ) → 8 ≤ getD known s 0 → cells₀ ≡ put entry s (kept (ofCode from) first)
+      → Visits netlist known s from first w waiter entry after Stopped
+  rest-stopped on less after takes entry searched begun =
+      ends entry searched begun after Stopped (λ n h. ap endedOf (sym (taken on less Stopped after takes n h)))
+
+-- What the code finds behind a pin: a class that is known, or a gate to visit.
+module _ (visit : Visit) (x w : ℕ) (wt : Waiting) (cells : List ℕ) where
+  fetch-told : (d : Driver) (k : ℕ) → Told k ≡ driverCode d → (Known k, cells) ≡ endedOf (fetch visit x d w wt cells)
+  fetch-told (told k′) k h = ap (λ k. (Known k, cells)) cc
+  fetch-told (behind p next) k h = let z : _≡_ {A = ℕ} 0 1 = cc in absurd (omega arith)
+
+  fetch-behind : (d : Driver) (from first : ℕ) → Behind from first ≡ driverCode d
+      → visit x (ofCode from) first w wt cells ≡ fetch visit x d w wt cells
+  fetch-behind (told k) from first h = let z : _≡_ {A = ℕ} 0 1 = cc in absurd (omega arith)
+  fetch-behind (behind p next) from first h =
+      let e : from ≡ code p = cc in
+      let i : first ≡ next = cc in
+      rw (e, i, ofCode-code p)
+
+-- a gate to visit is one to be searched, and its next pin fits its cell
+pub behind-searched : (netlist known : List ℕ) (x : ℕ) (cells : List ℕ) (from first : ℕ) → getD cells x 0 < 256
+    → Behind from first ≡ driverCode (driverOf (sourceFrom netlist known x) (cellAt cells x)) → (8 ≤ getD known x 0) × (first < 16)
+unfolding sourceFrom driverOf cellAt cellOf
+behind-searched netlist codes x cells from first byte h = go (ltb (getD codes x 0) 8) (ltb (getD cells x 0) 128) refl h
+  where
+    seen : (one : Option Class) (p : Class) → Behind from first ≡ driverCode (toldOr one p (nextOf (getD cells x 0))) → first < 16
+    seen (some k) p h = let z : _≡_ {A = ℕ} 0 1 = cc in absurd (omega arith)
+    seen none p h = let i : first ≡ nextOf (getD cells x 0) = cc in omega arith
+
+    go : (t u : Bool) → ltb (getD codes x 0) 8 ≡ t
+        → Behind from first
+        ≡ driverCode
+        (driverOf (cond t (given (ofCode (getD codes x 0))) (gate (kindFrom netlist x) (pinsFrom netlist x)))
+        (cond u new (kept (ofCode (getD cells x 0)) (nextOf (getD cells x 0)))))
+        → (8 ≤ getD codes x 0) × (first < 16)
+    go true u t h = let z : _≡_ {A = ℕ} 0 1 = cc in absurd (omega arith)
+    go false true t h = (ltb-false (getD codes x 0) 8 t, let i : first ≡ 0 = cc in omega arith)
+    go false false t h = (
+      ltb-false (getD codes x 0) 8 t,
+      seen (only (possibleOf (kindFrom netlist x) (ofCode (getD cells x 0)) (drop (nextOf (getD cells x 0)) (pinsFrom netlist x)))) (ofCode (getD cells x 0)) h,
+    )
+
+-- Pin `next` of signal s is on signal x, and counts as taken. Its gate waits, and the gate behind the pin has a wanted set.
+module _ (netlist known : List ℕ) (s p next w : ℕ) (entry : List ℕ) (x wanted waiter : ℕ) (cells : List ℕ) (on : x ≡ getD (pinsFrom netlist s) next 0)
+    (wants : wanted ≡ wantedFor (opOf (kindFrom netlist s)) (inverts (kindFrom netlist s)) (ofCode p) (ltb (next + 1) (countFrom netlist s)) w)
+    (waiting : waitingOf waiter ≡ waits (opOf (kindFrom netlist s)) (ofCode p)) (counted : cells ≡ put entry s (kept (ofCode p) (next + 1))) where
+  abbrev Driven : Driver
+  Driven = driverOf (sourceFrom netlist known x) (cellAt cells x)
+
+  fetched : (n : ℕ)
+      → fetch (visit (sourceFrom netlist known) n) x Driven wanted (waitingOf waiter) cells
+      ≡ takeNext (sourceFrom netlist known) (visit (sourceFrom netlist known) n) (kindFrom netlist s) (pinsFrom netlist s) s (ofCode p) next w entry
+  unfolding takeNext takePin
+  fetched n =
+      rw (waiting, wants, on, counted, add-one next, left-is (suc next) (pinsFrom netlist s), words-length (countFrom netlist s) netlist (placeFrom netlist s + 2))
+
+  pub takes-told : (k : ℕ) → Told k ≡ driverCode Driven → Takes netlist known s p next w entry cells (Known k)
+  takes-told k h = record { is = λ n less. fetch-told _ _ _ _ _ Driven k h ∙ ap endedOf (fetched n) }
+
+  pub takes-behind : (from first : ℕ) → Behind from first ≡ driverCode Driven → x < s → (exit : List ℕ) (r : Ending)
+      → Visits netlist known x from first wanted waiter cells exit r → Takes netlist known s p next w entry exit r
+  takes-behind from first h below exit r visits =
+      record { is = λ n less. visits .is n (omega arith) ∙ ap endedOf (fetch-behind _ _ _ _ _ Driven from first h ∙ fetched n) }

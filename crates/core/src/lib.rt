@@ -1,0 +1,558 @@
+// CORE: the search of one output.
+ghost use mathlib.Core.Path.{_≡_};
+ghost use mathlib.Core.Bool.{true};
+ghost use Prim.Native.Nat.{suc, _+_, _*_, _-_, _^_, _≤_, _<_};
+ghost use lib.Dec.{ltb};
+ghost use lib.ListN.{length, getD, replicate};
+ghost use Rattle.kung.specs.Class.{code, ofCode};
+ghost use Rattle.kung.specs.Rule.{kindOf};
+ghost use Rattle.kung.specs.Operation.{opCode, opOf, inverts, join, unit};
+ghost use Rattle.kung.specs.Sets.{has, possible, wantedFor};
+ghost use Rattle.kung.specs.Tables.{imageTable, wantedTable};
+ghost use Rattle.netlist.specs.Netlist.{inputsOf, kindAt, countAt, pinAt};
+ghost use Rattle.search.specs.Search.{kept, byteOf, cellOf, cellAt, put, fresh, sameResult, waits, driverOf, checks, judged, visitedOf, nextOf, total, search};
+ghost use Rattle.core.specs.Source.{gateAt, sourceFrom, countFrom, Indexed, Ready};
+ghost use Rattle.kung.specs.Sets.{cleanSet};
+ghost use Rattle.changes.specs.Changes.{sourcesOf};
+ghost use Rattle.core.specs.Core.{Searchable, guardedFound, coreAnswer};
+ghost use Rattle.core.specs.Found.{waitingOf, codeOr, endingOf, checkOf, driverCode, verdictCode, verdictFrom, foundOf, Visits, Takes};
+use changes::Listed;
+use kung::image_of;
+use kung::joined;
+use kung::only_class;
+use kung::possible_set;
+use kung::wanted_set;
+use netlist::count_at;
+use netlist::kind_at;
+use netlist::pin_at;
+
+// How a visit ends.
+enum Ending {
+    Stopped,
+    Known { class: u8 },
+    Unfinished { result: u8 },
+}
+
+// What a gate's checks find.
+enum Check {
+    Ends { ending: Ending },
+    GoesOn,
+}
+
+// What stands behind a pin: a class, or a gate to visit.
+enum Driver {
+    Told { class: u8 },
+    Behind { p: u8, next: u8 },
+}
+
+pub enum Verdict {
+    Clean { class: u8 },
+    Hazardous,
+}
+
+// The answer of a search.
+pub struct Found {
+    pub verdict: Verdict,
+    pub gates: usize,
+    pub pins: usize,
+}
+
+// The operation of a kind of gate: 0 AND, 1 OR.
+fn operation_of(kind: u8) -> u8
+    ensures { λ r. ⌜ r ≡ opCode (opOf (kindOf kind)) ⌝ }
+{
+    if kind == 4 {
+        return 1;
+    }
+    if kind == 6 { 1 } else { 0 }
+}
+
+fn is_inverting(kind: u8) -> bool
+    ensures { λ r. ⌜ r ≡ inverts (kindOf kind) ⌝ }
+{
+    if kind == 1 {
+        return true;
+    }
+    if kind == 5 { true } else { kind == 6 }
+}
+
+// The class that p starts from.
+fn unit_of(kind: u8) -> u8
+    ensures { λ r. ⌜ r ≡ code (unit (opOf (kindOf kind))) ⌝ }
+{
+    1 - operation_of(kind)
+}
+
+// A gate that waits with p, as a number; 16 stands for nobody.
+fn waiter_of(kind: u8, p: u8) -> u8
+    ensures { λ r. ⌜ waitingOf r ≡ waits (opOf (kindOf kind)) (ofCode p) ⌝ }
+{
+    8 * operation_of(kind) + p % 8
+}
+
+fn keep(cells: &mut [u8], s: usize, p: u8, next: u8)
+    requires { ⌜ (s < length (now cells)) × (next < 16) ⌝ }
+    ensures { λ r. ⌜ now (cells .exit) ≡ put (now (cells .entry)) s (kept (ofCode p) next) ⌝ }
+{
+    cells[s] = 128 + 8 * next + p % 8;
+}
+
+// Check (c): the one result that the waiting gate gets of any class of the set, or 8.
+fn same_result_of(images: &[u8; 4096], waiter: u8, set: u8) -> u8
+    requires { ⌜ now images ≡ imageTable ⌝ }
+    ensures { λ r. ⌜ r ≡ codeOr (sameResult (waitingOf waiter) set) ⌝ }
+{
+    if waiter < 16 {
+        only_class(image_of(images, waiter / 8, waiter, set))
+    } else {
+        8
+    }
+}
+
+// A gate's checks, in order.
+fn check_gate(images: &[u8; 4096], kind: u8, p: u8, left: bool, wanted: u8, waiter: u8) -> Check
+    requires { ⌜ now images ≡ imageTable ⌝ }
+    ensures { λ r. ⌜ r ≡ checkOf (checks (possible (opOf (kindOf kind)) (inverts (kindOf kind)) (ofCode p) left) wanted (waitingOf waiter)) ⌝ }
+{
+    let set = possible_set(images, operation_of(kind), is_inverting(kind), p, left);
+    let class = only_class(set);
+    if set & wanted == 0 {
+        return Check::Ends {
+            ending: Ending::Stopped,
+        };
+    }
+    if class < 8 {
+        return Check::Ends {
+            ending: Ending::Known { class: class },
+        };
+    }
+    let result = same_result_of(images, waiter, set);
+    if result < 8 {
+        return Check::Ends {
+            ending: Ending::Unfinished { result: result },
+        };
+    }
+    Check::GoesOn
+}
+
+// The place of the record of signal s's gate.
+fn place_of(places: &[u16], inputs: usize, s: usize) -> u16
+    requires { ⌜ (inputs ≤ s) × (s - inputs < length (now places)) ⌝ }
+    ensures { λ r. ⌜ r ≡ getD (now (places .entry)) (s - inputs) 0 ⌝ }
+{
+    let gate = s - inputs;
+    places[gate]
+}
+
+// The wanted set of the gate behind pin `next`.
+fn wanted_behind(
+    wanteds: &[u8; 4608],
+    netlist: &[u8],
+    place: u16,
+    p: u8,
+    next: u8,
+    wanted: u8,
+) -> u8
+    requires { ⌜ (now wanteds ≡ wantedTable) × (next < 255) ⌝ }
+    ensures { λ r. ⌜ r ≡ wantedFor (opOf (kindOf (kindAt (now (netlist .entry)) place))) (inverts (kindOf (kindAt (now (netlist .entry)) place))) (ofCode p) (ltb (next + 1) (countAt (now (netlist .entry)) place)) wanted ⌝ }
+{
+    let kind = kind_at(netlist, place);
+    let more = next + 1 < count_at(netlist, place);
+    wanted_set(
+        wanteds,
+        operation_of(kind),
+        is_inverting(kind),
+        p,
+        more,
+        wanted,
+    )
+}
+
+// What stands behind a pin on a gate to be searched: its class where its possible set has one.
+fn gate_driver(images: &[u8; 4096], netlist: &[u8], place: u16, cell: u8) -> Driver
+    requires { ⌜ now images ≡ imageTable ⌝ }
+    ensures { λ r. ⌜ r ≡ driverCode (driverOf (gateAt (now (netlist .entry)) place) (cellOf cell)) ⌝ }
+{
+    let kind = kind_at(netlist, place);
+    if cell < 128 {
+        return Driver::Behind {
+            p: unit_of(kind),
+            next: 0,
+        };
+    }
+    let next = cell / 8 - 16;
+    let left = next < count_at(netlist, place);
+    let class = only_class(possible_set(
+        images,
+        operation_of(kind),
+        is_inverting(kind),
+        cell,
+        left,
+    ));
+    if class < 8 {
+        Driver::Told { class: class }
+    } else {
+        Driver::Behind {
+            p: cell % 8,
+            next: next,
+        }
+    }
+}
+
+// What stands behind a pin on signal x.
+fn driver_at(
+    images: &[u8; 4096],
+    netlist: &[u8],
+    places: &[u16],
+    known: &[u8],
+    cells: &[u8],
+    inputs: usize,
+    x: usize,
+) -> Driver
+    requires { ⌜ now images ≡ imageTable ⌝ }
+    requires { ⌜ Indexed (now netlist) (now places) (now known) inputs ⌝ }
+    requires { ⌜ (x < length (now known)) × (x < length (now cells)) ⌝ }
+    ensures { λ r. ⌜ r ≡ driverCode (driverOf (sourceFrom (now (netlist .entry)) (now (known .entry)) x) (cellAt (now (cells .entry)) x)) ⌝ }
+{
+    let class = known[x];
+    if class < 8 {
+        return Driver::Told { class: class };
+    }
+    gate_driver(images, netlist, place_of(places, inputs, x), cells[x])
+}
+
+// A visit of signal s, whose gate has p and takes its pin `next` next. Its pins are taken in turn, until a check ends the visit.
+fn visit(
+    images: &[u8; 4096],
+    wanteds: &[u8; 4608],
+    netlist: &[u8],
+    places: &[u16],
+    known: &[u8],
+    cells: &mut [u8],
+    inputs: usize,
+    s: usize,
+    from: u8,
+    first: u8,
+    wanted: u8,
+    waiter: u8,
+) -> Ending
+    requires { ⌜ Ready (now images) (now wanteds) (now netlist) (now places) (now known) inputs ⌝ }
+    requires { ⌜ (8 ≤ getD (now known) s 0) × (s < length (now cells)) × (first < 16) ⌝ }
+    ensures { λ r. ⌜ Visits (now (netlist .entry)) (now (known .entry)) s from first wanted waiter (now (cells .entry)) (now (cells .exit)) r ⌝ }
+{
+    let place = place_of(places, inputs, s);
+    let kind = kind_at(netlist, place);
+    let count = count_at(netlist, place);
+    keep(cells, s, from, first);
+    let mut p = from;
+    let mut next = first;
+    loop {
+        let check = check_gate(images, kind, p, next < count, wanted, waiter);
+        match check {
+            Check::Ends { ending } => {
+                return ending;
+            }
+            Check::GoesOn => {}
+        }
+        let ended = take(
+            images,
+            wanteds,
+            netlist,
+            places,
+            known,
+            cells,
+            inputs,
+            s,
+            p,
+            next,
+            wanted,
+        );
+        match ended {
+            Ending::Stopped => {
+                return Ending::Stopped;
+            }
+            Ending::Known { class } => {
+                p = joined(images, operation_of(kind), p, class);
+            }
+            Ending::Unfinished { result } => {
+                p = result;
+            }
+        }
+        next += 1;
+        keep(cells, s, p, next);
+    }
+}
+
+// Takes pin `next` of signal s's gate: visits the gate behind it, unless its class is known.
+fn take(
+    images: &[u8; 4096],
+    wanteds: &[u8; 4608],
+    netlist: &[u8],
+    places: &[u16],
+    known: &[u8],
+    cells: &mut [u8],
+    inputs: usize,
+    s: usize,
+    p: u8,
+    next: u8,
+    wanted: u8,
+) -> Ending
+    requires { ⌜ Ready (now images) (now wanteds) (now netlist) (now places) (now known) inputs ⌝ }
+    requires { ⌜ (8 ≤ getD (now known) s 0) × (s < length (now cells)) × (next < countFrom (now netlist) s) ⌝ }
+    ensures { λ r. ⌜ Takes (now (netlist .entry)) (now (known .entry)) s p next wanted (now (cells .entry)) (now (cells .exit)) r ⌝ }
+{
+    let place = place_of(places, inputs, s);
+    let waiter = waiter_of(kind_at(netlist, place), p);
+    let behind = wanted_behind(wanteds, netlist, place, p, next, wanted);
+    let x = pin_at(netlist, place, next) as usize;
+    keep(cells, s, p, next + 1);
+    let driver = driver_at(images, netlist, places, known, cells, inputs, x);
+    match driver {
+        Driver::Told { class } => Ending::Known { class: class },
+        Driver::Behind {
+            p: from,
+            next: first,
+        } => visit(
+            images,
+            wanteds,
+            netlist,
+            places,
+            known,
+            cells,
+            inputs,
+            x,
+            from,
+            first,
+            behind,
+            waiter,
+        ),
+    }
+}
+
+// The number of gates visited and of pins taken.
+struct Counts {
+    gates: usize,
+    pins: usize,
+}
+
+fn visited_in(cell: u8) -> usize
+    ensures { λ r. ⌜ r ≡ visitedOf cell ⌝ }
+{
+    if cell < 128 { 0 } else { 1 }
+}
+
+fn taken_in(cell: u8) -> usize
+    ensures { λ r. ⌜ r ≡ nextOf cell ⌝ }
+{
+    if cell < 128 {
+        0
+    } else {
+        (cell / 8 - 16) as usize
+    }
+}
+
+fn count(cells: &[u8]) -> Counts
+    requires { ⌜ length (now cells) < 2 ^ 32 ⌝ }
+    ensures { λ r. ⌜ (r .gates ≡ total visitedOf (now (cells .entry))) × (r .pins ≡ total nextOf (now (cells .entry))) ⌝ }
+{
+    let mut gates: usize = 0;
+    let mut pins: usize = 0;
+    let mut i: usize = 0;
+    while i < cells.len() {
+        gates += visited_in(cells[i]);
+        pins += taken_in(cells[i]);
+        i += 1;
+    }
+    Counts {
+        gates: gates,
+        pins: pins,
+    }
+}
+
+fn clear(cells: &mut [u8])
+    ensures { λ r. ⌜ now (cells .exit) ≡ fresh (length (now (cells .entry))) ⌝ }
+{
+    let mut i: usize = 0;
+    while i < cells.len() {
+        cells[i] = 0;
+        i += 1;
+    }
+}
+
+fn has_class(set: u8, class: u8) -> bool
+    requires { ⌜ class < 8 ⌝ }
+    ensures { λ r. ⌜ r ≡ has set (ofCode class) ⌝ }
+{
+    (set >> class) % 2 == 1
+}
+
+// A class that is known without a visit, judged against the wanted set.
+fn judge(wanted: u8, class: u8) -> Verdict
+    requires { ⌜ class < 8 ⌝ }
+    ensures { λ r. ⌜ r ≡ verdictCode (judged wanted (ofCode class)) ⌝ }
+{
+    if has_class(wanted, class) {
+        Verdict::Clean { class: class }
+    } else {
+        Verdict::Hazardous
+    }
+}
+
+fn verdict_of(ending: Ending) -> Verdict
+    ensures { λ r. ⌜ r ≡ verdictFrom ending ⌝ }
+{
+    match ending {
+        Ending::Stopped => Verdict::Hazardous,
+        Ending::Known { class } => Verdict::Clean { class: class },
+        Ending::Unfinished { result: _ } => Verdict::Hazardous,
+    }
+}
+
+// The search of signal s with a wanted set. Each call starts afresh: what the cells hold is of no use, before and after.
+pub fn find(
+    images: &[u8; 4096],
+    wanteds: &[u8; 4608],
+    netlist: &[u8],
+    places: &[u16],
+    known: &[u8],
+    cells: &mut [u8],
+    inputs: usize,
+    wanted: u8,
+    s: usize,
+) -> Found
+    requires { ⌜ Ready (now images) (now wanteds) (now netlist) (now places) (now known) inputs ⌝ }
+    requires { ⌜ (s < length (now known)) × (s < length (now cells)) ⌝ }
+    ensures { λ r. ⌜ r ≡ foundOf (search (sourceFrom (now (netlist .entry)) (now (known .entry))) wanted s) ⌝ }
+{
+    let class = known[s];
+    if class < 8 {
+        return Found {
+            verdict: judge(wanted, class),
+            gates: 0,
+            pins: 0,
+        };
+    }
+    let from = unit_of(kind_at(netlist, place_of(places, inputs, s)));
+    let reached = &mut cells[..s + 1];
+    clear(reached);
+    let ending = visit(
+        images,
+        wanteds,
+        netlist,
+        places,
+        known,
+        reached,
+        inputs,
+        s,
+        from,
+        0,
+        wanted,
+        16,
+    );
+    let counts = count(reached);
+    Found {
+        verdict: verdict_of(ending),
+        gates: counts.gates,
+        pins: counts.pins,
+    }
+}
+
+// The answer of CORE: clean with the class, or hazardous, with gates and pins; or a refusal of document 01.
+pub enum Cored {
+    Clean {
+        class: u8,
+        gates: usize,
+        pins: usize,
+    },
+    Hazardous {
+        gates: usize,
+        pins: usize,
+    },
+    Refused(u8, usize),
+}
+
+// The search of a signal in a change of an accepted list, without a check.
+fn search_signal(
+    netlist: &[u8],
+    list: &[u8],
+    inputs: usize,
+    gates: usize,
+    width: usize,
+    change: usize,
+    s: usize,
+) -> Found
+    requires { ⌜ Searchable (now netlist) inputs gates width change s ⌝ }
+    ensures { λ r. ⌜ r ≡ foundOf (search (sourcesOf (now (netlist .entry)) (now (list .entry)) change) cleanSet s) ⌝ }
+{
+    let images = kung::images();
+    let wanteds = kung::wanted_table();
+    let mut places = [0u16; 2048];
+    netlist::fill_places(netlist, &mut places, gates);
+    let mut known = [8u8; 2304];
+    changes::fill_inputs(list, width, change, inputs, &mut known);
+    let signals = inputs + gates;
+    let mut cells = [0u8; 2304];
+    find(
+        &images,
+        &wanteds,
+        netlist,
+        &places,
+        &known[..signals],
+        &mut cells,
+        inputs,
+        15,
+        s,
+    )
+}
+
+// Whether an output can glitch in a change.
+pub fn core(netlist: &[u8], list: &[u8], change: usize, output: usize) -> Cored
+    ensures { λ r. ⌜ r ≡ coreAnswer (now (netlist .entry)) (now (list .entry)) change output ⌝ }
+{
+    let listed = changes::check(netlist, list);
+    match listed {
+        Listed::Refused(number, place) => Cored::Refused(number, place),
+        Listed::Accepted {
+            inputs,
+            gates,
+            outputs,
+            pins,
+            entries,
+            changes,
+            width,
+        } => {
+            if changes <= change {
+                return Cored::Refused(18, 0);
+            }
+            if outputs <= output {
+                return Cored::Refused(19, 0);
+            }
+            let s = netlist::entry_at(netlist, entries, output) as usize;
+            guard(
+                pins,
+                search_signal(netlist, list, inputs, gates, width, change, s),
+            )
+        }
+    }
+}
+
+// A search's answer, unless it took more pins than the card has.
+fn guard(most: usize, found: Found) -> Cored
+    ensures { λ r. ⌜ r ≡ guardedFound most found ⌝ }
+{
+    let verdict = found.verdict;
+    if most < found.pins {
+        return Cored::Refused(21, 0);
+    }
+    match verdict {
+        Verdict::Clean { class } => Cored::Clean {
+            class: class,
+            gates: found.gates,
+            pins: found.pins,
+        },
+        Verdict::Hazardous => Cored::Hazardous {
+            gates: found.gates,
+            pins: found.pins,
+        },
+    }
+}

@@ -1,0 +1,4 @@
+pub mod Appending
+pub mod Lengths
+mod Decimal
+mod Cases

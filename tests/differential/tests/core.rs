@@ -1,0 +1,350 @@
+//! `lane_core` against the reference: verdict, class, gates visited and pins
+//! taken, for all outputs and changes.
+
+use reference::cases;
+use reference::core::{self, Answer, Statistics, Verdict};
+use reference::netlist::{Card, Gate, Kind, KINDS, MAX_GATES, MAX_INPUTS};
+use reference::random::{self, Random, Shape, SHAPES};
+use reference::{changes, full};
+
+extern "C" {
+    fn lane_core(
+        netlist: *const u8,
+        netlist_len: usize,
+        list: *const u8,
+        list_len: usize,
+        change: usize,
+        output: usize,
+        answer: *mut u64,
+    ) -> u32;
+}
+
+/// The library's answer: the refusal number (0 none) and the five values.
+fn library(netlist: &[u8], list: &[u8], change: usize, output: usize) -> (u32, [u64; 5]) {
+    let mut answer = [u64::MAX; 5];
+    // SAFETY: the slices and the five values live through the call.
+    let number = unsafe {
+        lane_core(
+            netlist.as_ptr(),
+            netlist.len(),
+            list.as_ptr(),
+            list.len(),
+            change,
+            output,
+            answer.as_mut_ptr(),
+        )
+    };
+    (number, answer)
+}
+
+fn values(answer: Answer) -> [u64; 5] {
+    let (verdict, code) = match answer.verdict {
+        Verdict::Clean(class) => (0, class.code()),
+        Verdict::Hazardous => (1, 0),
+    };
+    [verdict, u64::from(code), answer.gates, answer.pins, 0]
+}
+
+fn expected(netlist: &[u8], list: &[u8], change: usize, output: usize) -> (u32, [u64; 5]) {
+    match core::core(netlist, list, change, output) {
+        Ok(answer) => (0, values(answer)),
+        Err(refused) => (refused.number, [refused.place, 0, 0, 0, 0]),
+    }
+}
+
+/// What a run of comparisons has seen.
+#[derive(Default)]
+struct Seen {
+    cards: usize,
+    compared: usize,
+    hazardous: usize,
+    /// Searches with at least one visit that ended unfinished, and with at
+    /// least one unfinished gate carried on.
+    with_unfinished: usize,
+    with_carried_on: usize,
+}
+
+impl Seen {
+    fn note(&mut self, answer: &Answer, statistics: &Statistics) {
+        self.compared += 1;
+        self.hazardous += usize::from(answer.verdict == Verdict::Hazardous);
+        self.with_unfinished += usize::from(statistics.unfinished > 0);
+        self.with_carried_on += usize::from(statistics.carried_on > 0);
+    }
+
+    fn print(&self, name: &str) {
+        println!(
+            "core {name}: {} cards, {} searches compared, {} hazardous, \
+             {} with a visit that ended unfinished, {} with one carried on",
+            self.cards, self.compared, self.hazardous, self.with_unfinished, self.with_carried_on
+        );
+    }
+}
+
+/// All changes and all outputs of a card.
+fn compare_card(seen: &mut Seen, random: &mut Random, card: &Card, count: usize) {
+    let (netlist, list) = random::files(random, card, count);
+    let inputs = |change| changes::input_classes(&list, card.inputs, change);
+    for change in 0..count {
+        let right = core::all_outputs(card, &inputs(change));
+        for (output, (answer, statistics)) in right.iter().enumerate() {
+            let found = library(&netlist, &list, change, output);
+            assert_eq!(
+                found,
+                (0, values(*answer)),
+                "change {change} {:?} output {output} of {card:?}",
+                inputs(change)
+            );
+            seen.note(answer, statistics);
+        }
+    }
+    seen.cards += 1;
+}
+
+#[test]
+fn mux() {
+    let (netlist, list) = (cases::mux_netlist(), cases::mux_list());
+    assert_eq!(library(&netlist, &list, 0, 0), (0, [1, 0, 4, 7, 0]));
+}
+
+#[test]
+fn many_small_cards() {
+    let mut random = Random::new(41);
+    let mut seen = Seen::default();
+    for round in 0..6000 {
+        let shape = SHAPES[round % SHAPES.len()];
+        let (inputs, gates) = (random.from_to(1, 12), random.below(50));
+        let outputs = random.from_to(1, 5);
+        let card = random::card(&mut random, shape, inputs, gates, outputs);
+        compare_card(&mut seen, &mut random, &card, 3);
+    }
+    assert!(seen.hazardous > 2000 && seen.compared - seen.hazardous > 2000);
+    assert!(seen.with_unfinished > 2000);
+    assert!(seen.with_carried_on > 500);
+    seen.print("small cards");
+}
+
+/// Deep cones of narrow gates that are shared: the search returns to gates
+/// that it left unfinished.
+#[test]
+fn shared_cones() {
+    let mut random = Random::new(42);
+    let mut seen = Seen::default();
+    for round in 0..600 {
+        let shape = [Shape::Shared, Shape::Hubs, Shape::Wide][round % 3];
+        let (inputs, gates) = (random.from_to(3, 60), random.from_to(60, 400));
+        let card = random::card(&mut random, shape, inputs, gates, 8);
+        compare_card(&mut seen, &mut random, &card, 3);
+    }
+    assert!(seen.with_unfinished > 2000);
+    assert!(seen.with_carried_on > 500);
+    seen.print("shared cones");
+}
+
+#[test]
+fn cards_of_every_size() {
+    let mut random = Random::new(43);
+    let mut seen = Seen::default();
+    for _ in 0..150 {
+        let card = random::any_card(&mut random);
+        compare_card(&mut seen, &mut random, &card, 2);
+    }
+    for shape in SHAPES {
+        for (inputs, gates) in [
+            (1, 0),
+            (1, MAX_GATES),
+            (MAX_INPUTS, 0),
+            (MAX_INPUTS, MAX_GATES),
+        ] {
+            let card = random::card(&mut random, shape, inputs, gates, 64);
+            compare_card(&mut seen, &mut random, &card, 2);
+        }
+    }
+    seen.print("every size");
+}
+
+/// 2,048 gates of eight pins.
+#[test]
+fn widest_cards() {
+    let mut random = Random::new(44);
+    let mut seen = Seen::default();
+    for _ in 0..4 {
+        let card = random::widest_card(&mut random);
+        compare_card(&mut seen, &mut random, &card, 4);
+    }
+    seen.print("widest cards");
+}
+
+/// A chain of 2,048 gates in which each gate takes the one before it at pin
+/// `link` of `count`, and signal 0 elsewhere.
+fn chain(kinds: &[Kind], count: usize, link: usize) -> Card {
+    let gates = (0..MAX_GATES)
+        .map(|number| {
+            let kind = kinds[number % kinds.len()];
+            let count = count.clamp(*kind.pin_limits().start(), *kind.pin_limits().end());
+            let mut pins = vec![0; count];
+            pins[link % count] = 1 + number;
+            Gate { kind, pins }
+        })
+        .collect();
+    Card {
+        inputs: 2,
+        gates,
+        outputs: vec![MAX_GATES + 1],
+    }
+}
+
+fn chains() -> Vec<Card> {
+    let mut cards = vec![chain(&[Kind::Not], 1, 0), chain(&[Kind::Buffer], 1, 0)];
+    for count in [2, 8] {
+        for link in 0..count {
+            cards.push(chain(&[Kind::And], count, link));
+            cards.push(chain(&[Kind::Nand, Kind::Nor], count, link));
+            cards.push(chain(&KINDS, count, link));
+        }
+    }
+    cards
+}
+
+#[test]
+fn deep_chains() {
+    let mut random = Random::new(45);
+    let mut seen = Seen::default();
+    for card in chains() {
+        compare_card(&mut seen, &mut random, &card, 6);
+    }
+    seen.print("deep chains");
+}
+
+/// The deepest searches in a thread with 1 MB of stack.
+#[test]
+fn deep_chains_on_a_small_stack() {
+    let work = || {
+        let (mut compared, mut deepest) = (0, 0);
+        for card in chains() {
+            let netlist = card.to_bytes();
+            // Nothing decides before the chain's end is reached.
+            for (side, end) in [(0, 2), (1, 2), (0, 3), (1, 3), (2, 2), (2, 3)] {
+                let class = |code| reference::classes::Class::of_code(code);
+                let list = changes::to_bytes(&netlist, &[vec![class(side), class(end)]]);
+                let right = expected(&netlist, &list, 0, 0);
+                assert_eq!(library(&netlist, &list, 0, 0), right);
+                compared += 1;
+                deepest = deepest.max(right.1[2]);
+            }
+        }
+        assert_eq!(deepest, MAX_GATES as u64);
+        compared
+    };
+    let thread = std::thread::Builder::new().stack_size(1 << 20);
+    let compared = thread.spawn(work).unwrap().join().unwrap();
+    println!("core small stack: {compared} searches compared");
+}
+
+/// Every input of small cards for all 4^I changes: rare paths included.
+#[test]
+fn all_changes_of_small_cards() {
+    let mut random = Random::new(46);
+    let mut seen = Seen::default();
+    for round in 0..300 {
+        let shape = SHAPES[round % SHAPES.len()];
+        let (inputs, gates) = (random.from_to(1, 4), random.from_to(1, 14));
+        let card = random::card(&mut random, shape, inputs, gates, 3);
+        let all: Vec<changes::Change> = (0..1usize << (2 * inputs))
+            .map(|number| {
+                (0..inputs)
+                    .map(|input| {
+                        reference::classes::Class::of_code((number >> (2 * input) & 3) as u8)
+                    })
+                    .collect()
+            })
+            .collect();
+        let netlist = card.to_bytes();
+        let list = changes::to_bytes(&netlist, &all);
+        for (number, change) in all.iter().enumerate() {
+            let right = core::all_outputs(&card, change);
+            for (output, (answer, statistics)) in right.iter().enumerate() {
+                let found = library(&netlist, &list, number, output);
+                assert_eq!(found, (0, values(*answer)), "{change:?} {output} {card:?}");
+                seen.note(answer, statistics);
+            }
+        }
+        seen.cards += 1;
+    }
+    assert!(seen.with_carried_on > 500);
+    seen.print("all changes");
+}
+
+#[test]
+fn numbers_past_the_end() {
+    let mut random = Random::new(47);
+    let mut compared = 0;
+    for outputs in [1, 2, 64] {
+        let card = random::card(&mut random, Shape::Mixed, 5, 12, outputs);
+        let (netlist, list) = random::files(&mut random, &card, 2);
+        let far = [0, 1, 256, 65_536, 1 << 32, 1 << 63, usize::MAX];
+        for change in far.into_iter().chain([2, 3]) {
+            for output in far.into_iter().chain([outputs - 1, outputs]) {
+                let right = expected(&netlist, &list, change, output);
+                let number = match (change < 2, output < outputs) {
+                    (false, _) => 18,
+                    (true, false) => 19,
+                    (true, true) => 0,
+                };
+                assert_eq!(right.0, number);
+                assert_eq!(library(&netlist, &list, change, output), right);
+                compared += 1;
+            }
+        }
+    }
+    println!("core numbers: {compared} calls compared");
+}
+
+#[test]
+fn damaged_files() {
+    let mut random = Random::new(48);
+    let mut met = [0; 22];
+    for _ in 0..3000 {
+        let card = random::small_card(&mut random);
+        let (mut netlist, mut list) = random::files(&mut random, &card, 2);
+        match random.below(3) {
+            0 => random::damage_netlist(&mut random, &card, &mut netlist),
+            _ => random::damage_list(&mut random, card.inputs, &mut list),
+        }
+        let change = random.pick(&[0, 1, 2, usize::MAX]);
+        let output = random.pick(&[0, 1, 5, 64]);
+        let right = expected(&netlist, &list, change, output);
+        assert_eq!(library(&netlist, &list, change, output), right);
+        met[right.0 as usize] += 1;
+    }
+    for (number, times) in met.iter().enumerate().take(20) {
+        assert!(*times > 0, "refusal {number} not met: {met:?}");
+    }
+    println!("core damaged: 3000 calls compared, by number {met:?}");
+}
+
+/// The verdict is full simulation's class, through the library alone.
+#[test]
+fn verdict_is_the_class() {
+    let mut random = Random::new(49);
+    let mut compared = 0;
+    for _ in 0..500 {
+        let card = random::small_card(&mut random);
+        let (netlist, list) = random::files(&mut random, &card, 2);
+        for change in 0..2 {
+            let inputs = changes::input_classes(&list, card.inputs, change);
+            let classes = full::classes(&card, &inputs);
+            for (output, signal) in card.outputs.iter().enumerate() {
+                let class = classes[*signal];
+                let (number, values) = library(&netlist, &list, change, output);
+                let wanted = match class.is_clean() {
+                    true => (0, [0, u64::from(class.code())]),
+                    false => (0, [1, 0]),
+                };
+                assert_eq!((number, [values[0], values[1]]), wanted);
+                compared += 1;
+            }
+        }
+    }
+    println!("core verdicts: {compared} compared");
+}
