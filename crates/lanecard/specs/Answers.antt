@@ -8,6 +8,9 @@ use Rattle.changes.specs.declared.Listed.{Listed}
 use Rattle.changes.specs.declared.Listed.the-variants as list
 use Rattle.core.specs.declared.Cored.{Cored}
 use Rattle.core.specs.declared.Cored.the-variants as core
+use Rattle.forward.specs.Forward.{forwardAnswer, forwardBuffer}
+use Rattle.forward.specs.declared.Forwarded.{Forwarded}
+use Rattle.forward.specs.declared.Forwarded.the-variants as forward
 use Rattle.simulate.specs.Full.{fullAnswer, fullBuffer}
 use Rattle.simulate.specs.declared.Simulated.{Simulated}
 use Rattle.simulate.specs.declared.Simulated.the-variants as simulate
@@ -46,3 +49,14 @@ unfoldable pub coredAnswer : Cored → Answer
 coredAnswer (core.Clean class gates pins) = accepted 0 class gates pins 0
 coredAnswer (core.Hazardous gates pins) = accepted 1 0 gates pins 0
 coredAnswer (core.Refused number place) = refused number place
+
+-- the touched count and the gates visited
+unfoldable pub forwardedAnswer : Forwarded → Answer
+forwardedAnswer (forward.Done touched visited) = accepted touched visited 0 0 0
+forwardedAnswer (forward.Refused number place) = refused number place
+
+-- the forward method's number, words and lent bytes
+pub record ForwardedOf (n l : List ℕ) (change : ℕ) (entry exit : List ℕ) (number : ℕ) (words : List ℕ) : Type 0 where
+  pub number-is : number ≡ forwardedAnswer (forwardAnswer n l change entry) .number
+  pub words-are : words ≡ forwardedAnswer (forwardAnswer n l change entry) .words
+  pub bytes-are : exit ≡ forwardBuffer n l change entry

@@ -7,9 +7,10 @@ ghost use Rattle.kung.specs.Operation.{join, opAt};
 ghost use Rattle.netlist.specs.Netlist.{checked};
 ghost use Rattle.changes.specs.Refusals.{listChecked};
 ghost use Rattle.core.specs.Core.{coreAnswer};
-ghost use Rattle.lanecard.specs.Answers.{netlistAnswer, listAnswer, Fulled, coredAnswer};
+ghost use Rattle.lanecard.specs.Answers.{netlistAnswer, listAnswer, Fulled, coredAnswer, ForwardedOf};
 use changes::Listed;
 use core::Cored;
+use forward::Forwarded;
 use netlist::Checked;
 use simulate::Simulated;
 
@@ -124,6 +125,26 @@ pub extern "C" fn lane_core(
         }
         Cored::Hazardous { gates, pins } => {
             put(answer, 1, 0, gates, pins, 0);
+            0
+        }
+    }
+}
+
+#[no_mangle]
+pub extern "C" fn lane_forward(
+    netlist: &[u8],
+    list: &[u8],
+    change: usize,
+    buffer: &mut [u8],
+    answer: &mut [u64; 5],
+) -> u32
+    ensures { λ r. ⌜ ForwardedOf (now (netlist .entry)) (now (list .entry)) change (now (buffer .entry)) (now (buffer .exit)) r (now (answer .exit)) ⌝ }
+{
+    let forwarded = forward::forward(netlist, list, change, buffer);
+    match forwarded {
+        Forwarded::Refused(number, place) => refuse(answer, number, place),
+        Forwarded::Done { touched, visited } => {
+            put(answer, touched, visited, 0, 0, 0);
             0
         }
     }

@@ -1,3 +1,4 @@
 pub mod Words
 pub mod Netlist
 pub mod Formed
+pub mod Proper

@@ -1,0 +1,174 @@
+-- The three demands hold. Assumes nothing.
+use Prim.Native.Nat.{ℕ, _+_, _≤_, _<_}
+use native.Mathlib.Omega.{arith}
+use mathlib.Core.Path.{_≡_, refl, sym, _∙_, ap, ap₂, subst}
+use mathlib.Core.Logic.{_↔_}
+use mathlib.Core.Bool.{Bool, true, false}
+use mathlib.Core.List.{List}
+use borrow.Author.Tests.{leb-true, le-leb, lt-leb, ltb-true, lt-ltb, le-ltb}
+use lib.Dec.{leb, ltb}
+use lib.ListN.{length}
+use Rattle.netlist.specs.Netlist.{inputsOf, gatesOf, outputsOf, outputAt, cardOf, accepted}
+use Rattle.netlist.proofs.Accepted.{formed}
+use Rattle.netlist.proofs.Proper.{first-refusal, accepted→proper, proper→accepted}
+use Rattle.changes.specs.declared.Listed.{Listed}
+use Rattle.changes.specs.declared.Listed.the-variants as list
+use Rattle.changes.specs.Refusals.{listChecked}
+use Rattle.changes.specs.Proper.{listAccepted}
+use Rattle.changes.proofs.Accepted.{listed}
+use Rattle.changes.proofs.Proper.{first-list-refusal, listed→proper, proper→listed}
+use Rattle.simulate.specs.Full as full
+use Rattle.simulate.specs.Full.{classIn, codes, fullAnswer, fullBuffer}
+use Rattle.simulate.specs.declared.Simulated.the-variants as simulated
+use Rattle.search.specs.Search.{Verdict, clean, hazardous}
+use Rattle.core.specs.Core.{answered, guarded, searchOf, judgedBy, coreAnswer}
+use Rattle.core.specs.declared.Cored.{Cored}
+use Rattle.core.specs.declared.Cored.the-variants as cored
+use Rattle.core.proofs.Theorems.{pins-within}
+use Rattle.forward.specs.Forward as forward
+use Rattle.forward.specs.Forward.{touchedIn, visitedIn, forwardBytes, forwardAnswer, forwardBuffer}
+use Rattle.forward.specs.declared.Forwarded.the-variants as forwarded
+use Rattle.bench.specs.Bench.{Event}
+use Rattle.bench.specs.Claim.{Claim}
+use Rattle.bench.proofs.Theorem.{holds}
+use Rattle.demands.specs.Demands.{ListAccepted, Accepted, FirstMet, firstVector, secondVector, Method, Calls, Demand1, Demand2, ShowsAll, Demand3}
+use Rattle.demands.proofs.Refusals.{chain, Cases, cases, form}
+use Rattle.demands.proofs.Verdicts.{output-below, demand2}
+
+-- each operation's answer is a chain of refusals
+full-chain : (change room : ℕ) (x : Listed) → chain simulated.Refused simulated.Done (λ i g o. ltb room (i + g)) 20 change x ≡ full.judged x change room
+unfolding full.judged
+full-chain change room (list.Refused number place) = refl
+full-chain change room (list.Accepted i g o p s t w) = refl
+
+forward-chain : (change room touched visited : ℕ) (x : Listed)
+    → chain forwarded.Refused (forwarded.Done touched visited) (λ i g o. ltb room o) 20 change x ≡ forward.judged x change room (forwarded.Done touched visited)
+unfolding forward.judged
+forward-chain change room touched visited (list.Refused number place) = refl
+forward-chain change room touched visited (list.Accepted i g o p s t w) = refl
+
+module _ (n l : List ℕ) (change output : ℕ) where
+  abbrev found : Cored
+  found = answered (searchOf n l change output .verdict) (searchOf n l change output .gates) (searchOf n l change output .pins)
+
+  core-chain : (x : Listed) → listChecked n l ≡ x
+      → chain cored.Refused found (λ i g o. leb o output) 19 change x ≡ judgedBy x change output (searchOf n l change output)
+  unfolding judgedBy guarded
+  core-chain (list.Refused number place) e = refl
+  core-chain (list.Accepted i g o p s t w) e = rw (le-ltb p (searchOf n l change output .pins) (pins-within n l e change output))
+
+-- a test of numbers, both ways
+abbrev Decides : Bool → Type 0 → Type 0
+Decides b P = ((b ≡ true) ↔ P) × ((P → ⊥) → b ≡ false)
+
+less : (x y z : ℕ) → y ≡ z → Decides (ltb x y) (x < z)
+less x y z e =
+    (((λ b. subst (λ k. x < k) e (ltb-true x y b)), λ h. lt-ltb x y (subst (λ k. x < k) (sym e) h)), λ h. le-ltb x y (omega arith))
+
+most : (x y z : ℕ) → x ≡ z → Decides (leb x y) (z ≤ y)
+most x y z e =
+    (((λ b. subst (λ k. k ≤ y) e (leb-true x y b)), λ h. le-leb x y (subst (λ k. k ≤ y) (sym e) h)), λ h. lt-leb x y (omega arith))
+
+module _ (n l : List ℕ) (change output : ℕ) (buffer : List ℕ) where
+  -- the last condition of each, by the netlist's numbers
+  short : (on : ListAccepted n l) → Decides (ltb (length buffer) (on .inputs + on .gates)) (length buffer < inputsOf n + gatesOf n)
+  short on = less (length buffer) (on .inputs + on .gates) (inputsOf n + gatesOf n) (ap₂ _+_ (form on .inputs-are) (form on .gates-are))
+
+  few : (on : ListAccepted n l) → Decides (ltb (length buffer) (on .outputs)) (length buffer < outputsOf n)
+  few on = less (length buffer) (on .outputs) (outputsOf n) (form on .outputs-are)
+
+  none : (on : ListAccepted n l) → Decides (leb (on .outputs) output) (outputsOf n ≤ output)
+  none on = most (on .outputs) output (outputsOf n) (form on .outputs-are)
+
+  full-cases : Cases simulated.Refused simulated.Done n l change (λ i g o. ltb (length buffer) (i + g)) 20 (length buffer < inputsOf n + gatesOf n)
+  full-cases =
+      cases simulated.Refused simulated.Done (λ a b c d e. ((cc), (cc))) (λ a b e. let z : _≡_ {A = ℕ} 0 1 = cc in omega arith) n l
+      (λ i g o. ltb (length buffer) (i + g)) 20 change (length buffer < inputsOf n + gatesOf n) (λ on. short on .0) (λ on. short on .1)
+
+  forward-cases : Cases forwarded.Refused (forwarded.Done (touchedIn n l change) (visitedIn n l change)) n l change (λ i g o. ltb (length buffer) o) 20
+      (length buffer < outputsOf n)
+  forward-cases =
+      cases forwarded.Refused (forwarded.Done (touchedIn n l change) (visitedIn n l change)) (λ a b c d e. ((cc), (cc)))
+      (λ a b e. let z : _≡_ {A = ℕ} 0 1 = cc in omega arith) n l (λ i g o. ltb (length buffer) o) 20 change (length buffer < outputsOf n) (λ on. few on .0)
+      (λ on. few on .1)
+
+  never-found : (a b : ℕ) → cored.Refused a b ≡ found n l change output → ⊥
+  never-found a b = go (searchOf n l change output .verdict)
+    where
+      go : (v : Verdict) → cored.Refused a b ≡ answered v (searchOf n l change output .gates) (searchOf n l change output .pins) → ⊥
+      go (clean k) e = let z : _≡_ {A = ℕ} 0 1 = cc in omega arith
+      go hazardous e = let z : _≡_ {A = ℕ} 0 1 = cc in omega arith
+
+  core-cases : Cases cored.Refused (found n l change output) n l change (λ i g o. leb o output) 19 (outputsOf n ≤ output)
+  core-cases =
+      cases cored.Refused (found n l change output) (λ a b c d e. ((cc), (cc))) never-found n l (λ i g o. leb o output) 19 change (outputsOf n ≤ output)
+      (λ on. none on .0) (λ on. none on .1)
+
+  full-is : chain simulated.Refused simulated.Done (λ i g o. ltb (length buffer) (i + g)) 20 change (listChecked n l) ≡ fullAnswer n l change buffer
+  unfolding fullAnswer
+  full-is = full-chain change (length buffer) (listChecked n l)
+
+  forward-is : chain forwarded.Refused (forwarded.Done (touchedIn n l change) (visitedIn n l change)) (λ i g o. ltb (length buffer) o) 20 change (listChecked n l)
+      ≡ forwardAnswer n l change buffer
+  unfolding forwardAnswer
+  forward-is = forward-chain change (length buffer) (touchedIn n l change) (visitedIn n l change) (listChecked n l)
+
+  core-is : chain cored.Refused (found n l change output) (λ i g o. leb o output) 19 change (listChecked n l) ≡ coreAnswer n l change output
+  unfolding coreAnswer
+  core-is = core-chain n l change output (listChecked n l) refl
+
+  pub demand1 : Demand1 n l change output buffer
+  unfolding fullBuffer forwardBuffer accepted listAccepted
+  demand1 =
+      record {
+        netlist-first = first-refusal n;
+        list-first = first-list-refusal n l;
+        netlist-proper = (accepted→proper n, proper→accepted n);
+        list-proper = (listed→proper n l, proper→listed n l);
+        full-done =
+            ((λ e. let h = full-cases .verdict .0 (full-is ∙ e) in (h .0, omega (arith, h .1))), λ h. sym full-is ∙ full-cases .verdict .1 (h .0, λ k. omega arith));
+        full-refused =
+            λ number place. ((λ e. full-cases .refusal number place .0 (full-is ∙ e)), λ h. sym full-is ∙ full-cases .refusal number place .1 h);
+        full-untouched = λ number place e. rw e;
+        forward-done = (
+          (λ e. let h = forward-cases .verdict .0 (forward-is ∙ e) in (h .0, omega (arith, h .1))),
+          λ h. sym forward-is ∙ forward-cases .verdict .1 (h .0, λ k. omega arith),
+        );
+        forward-refused =
+            λ number place. ((λ e. forward-cases .refusal number place .0 (forward-is ∙ e)), λ h. sym forward-is ∙ forward-cases .refusal number place .1 h);
+        forward-untouched = λ number place e. rw e;
+        core-done =
+            ((λ e. let h = core-cases .verdict .0 (core-is ∙ e) in (h .0, omega (arith, h .1))), λ h. sym core-is ∙ core-cases .verdict .1 (h .0, λ k. omega arith));
+        core-refused =
+            λ number place. ((λ e. core-cases .refusal number place .0 (core-is ∙ e)), λ h. sym core-is ∙ core-cases .refusal number place .1 h);
+      }
+
+module _ (n l : List ℕ) (change : ℕ) (a : Accepted n l change) where
+  abbrev claim : Claim (cardOf n) (firstVector n l change) (secondVector n l change)
+  claim =
+      holds (cardOf n) (formed n (listed n l (a .on .list-accepted) .netlist-accepted) .well-formed) (firstVector n l change) (secondVector n l change)
+
+  shows-all : ShowsAll n l change (claim .hazard .0)
+  unfolding classIn cardOf
+  shows-all =
+      let shows = claim .hazard .1 in
+      record {
+        is-order = shows .is-order;
+        gate-after-gate = shows .gate-after-gate;
+        complete = shows .complete;
+        twice-more =
+            λ m output h called.
+            shows .twice-more (outputAt n output) (output-below n l change a output h) (sym (demand2 n l change a .verdicts m output h false called));
+      }
+
+  pub demand3 : Demand3 n l change
+  unfolding classIn cardOf
+  demand3 =
+      record {
+        carried-on = claim .carried-on;
+        settles = claim .settles;
+        stays-clean =
+            λ es m output h called.
+            claim .stays-clean es (outputAt n output) (output-below n l change a output h) (sym (demand2 n l change a .verdicts m output h true called));
+        hazard = (claim .hazard .0, shows-all);
+      }

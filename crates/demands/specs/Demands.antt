@@ -1,0 +1,156 @@
+-- What is promised, in one file: the three demands, over the very definitions that the entry points' contracts cite.
+use Prim.Native.Nat.{ℕ, _+_, _≤_, _<_}
+use mathlib.Core.Path.{_≡_}
+use mathlib.Core.Bool.{Bool, true, false}
+use mathlib.Core.List.{List, _++_, map}
+use mathlib.Core.Logic.{_↔_}
+use mathlib.Core.Option.{Option, none, some}
+use lib.Dec.{eqb}
+use lib.ListN.{length, getD}
+use Rattle.kung.specs.Class.{Class, code, ofCode, clean, inputClass}
+use Rattle.kung.specs.Rule.{gateClass}
+use Rattle.circuit.specs.Circuit.{Card}
+use Rattle.circuit.specs.Settled.{settled}
+use Rattle.netlist.specs.Netlist.{inputsOf, gatesOf, outputsOf, outputAt, gateKind, gatePins, cardOf, accepted, checked}
+use Rattle.netlist.specs.Proper.{Proper, conditions, firstMet}
+use Rattle.netlist.specs.declared.Checked.the-variants as netlist
+use Rattle.changes.specs.Changes.{first, second, bitOf, widthOf}
+use Rattle.changes.specs.Refusals.{listChecked}
+use Rattle.changes.specs.Proper.{ProperList, listConditions, listAccepted}
+use Rattle.changes.specs.declared.Listed.the-variants as list
+use Rattle.simulate.specs.Full.{classIn, fullAnswer, fullBuffer}
+use Rattle.simulate.specs.declared.Simulated.the-variants as simulated
+use Rattle.core.specs.Core.{answered, searchOf, coreAnswer}
+use Rattle.core.specs.declared.Cored.{Cored}
+use Rattle.core.specs.declared.Cored.the-variants as cored
+use Rattle.forward.specs.Forward.{touchedIn, visitedIn, outputSearch, forwardAnswer, forwardBuffer}
+use Rattle.forward.specs.declared.Forwarded.the-variants as forwarded
+use Rattle.bench.specs.Bench.{Event, State, signalValue, after, AllowedFrom, Order, Complete, GateAfterGate, needs}
+
+-- an accepted netlist and list
+pub record ListAccepted (n l : List ℕ) : Type 0 where
+  pub inputs : ℕ
+  pub gates : ℕ
+  pub outputs : ℕ
+  pub pins : ℕ
+  pub entries : ℕ
+  pub changes : ℕ
+  pub width : ℕ
+  pub list-accepted : listChecked n l ≡ list.Accepted inputs gates outputs pins entries changes width
+
+-- and a change of theirs
+pub record Accepted (n l : List ℕ) (change : ℕ) : Type 0 where
+  pub on : ListAccepted n l
+  pub in-range : change < on .changes
+
+-- the two vectors of a change, input by input
+abbrev pub firstVector : (n l : List ℕ) → (change : ℕ) → ℕ → Bool
+firstVector n l change = bitOf l (widthOf (inputsOf n)) change first
+
+abbrev pub secondVector : (n l : List ℕ) → (change : ℕ) → ℕ → Bool
+secondVector n l change = bitOf l (widthOf (inputsOf n)) change second
+
+-- The methods' verdicts
+
+pub data Method : Type 0 where
+  full forward core : Method
+
+-- CORE's answer as a verdict: clean or not, or none where it is a refusal
+abbrev pub cleanBy : Cored → Option Bool
+cleanBy (cored.Clean class gates pins) = some true
+cleanBy (cored.Hazardous gates pins) = some false
+cleanBy (cored.Refused number place) = none
+
+-- "Full simulation calls an output clean when its signal's code is a clean class, the forward method by the byte 0, CORE by its answer; otherwise
+-- they call it hazardous. A refused call gives no verdict." A call, with the buffer lent to it, and whether it calls the output clean.
+abbrev pub Calls : Method → (n l : List ℕ) → (change output : ℕ) → Bool → Type 0
+Calls full n l change output called =
+    (buffer : List ℕ) × (fullAnswer n l change buffer ≡ simulated.Done)
+    × (clean (ofCode (getD (fullBuffer n l change buffer) (outputAt n output) 0)) ≡ called)
+Calls forward n l change output called =
+    (buffer : List ℕ) × (touched : ℕ) × (visited : ℕ) × (forwardAnswer n l change buffer ≡ forwarded.Done touched visited)
+    × (eqb (getD (forwardBuffer n l change buffer) output 0) 0 ≡ called)
+Calls core n l change output called = cleanBy (coreAnswer n l change output) ≡ some called
+
+-- Demand 1. "Whoever hands in a netlist, a list, a number or a buffer of whatever content or length gets a verdict or one of document 01's refusals,
+-- in its order; the work ends; a refusal leaves the caller's buffers untouched."
+-- A refusal is the first condition met: "the list's, then change not below T 18", then one condition more.
+pub data FirstMet (n l : List ℕ) (change : ℕ) (last : Type 0) (lastNumber : ℕ) (number place : ℕ) : Type 0 where
+  by-list : listChecked n l ≡ list.Refused number place → FirstMet n l change last lastNumber number place
+  by-change : (on : ListAccepted n l) → on .changes ≤ change → number ≡ 18 → place ≡ 0 → FirstMet n l change last lastNumber number place
+  by-last : Accepted n l change → last → number ≡ lastNumber → place ≡ 0 → FirstMet n l change last lastNumber number place
+
+pub record Demand1 (n l : List ℕ) (change output : ℕ) (buffer : List ℕ) : Type 0 where
+  -- "In the order below, the first condition met is the refusal; where none is met there is none."
+  pub netlist-first : checked n ≡ firstMet netlist.Refused (conditions n) (accepted n)
+  pub list-first : listChecked n l ≡ firstMet list.Refused (listConditions n l) (listAccepted n l)
+  -- a netlist, and a list, is accepted exactly where it is as document 01 says
+  pub netlist-proper : (checked n ≡ accepted n) ↔ Proper n
+  pub list-proper : (listChecked n l ≡ listAccepted n l) ↔ ProperList n l
+  -- "Full: the list's, then change not below T 18; buffer under I + G 20.": the verdict exactly where none is met, a refusal exactly where it is the first
+  pub full-done : (fullAnswer n l change buffer ≡ simulated.Done) ↔ (Accepted n l change × (inputsOf n + gatesOf n ≤ length buffer))
+  pub full-refused : (number place : ℕ)
+      → (fullAnswer n l change buffer ≡ simulated.Refused number place) ↔ FirstMet n l change (length buffer < inputsOf n + gatesOf n) 20 number place
+  pub full-untouched : (number place : ℕ) → fullAnswer n l change buffer ≡ simulated.Refused number place → fullBuffer n l change buffer ≡ buffer
+  -- "Forward: the list's, 18, buffer under O 20."
+  pub forward-done : (forwardAnswer n l change buffer ≡ forwarded.Done (touchedIn n l change) (visitedIn n l change))
+      ↔ (Accepted n l change × (outputsOf n ≤ length buffer))
+  pub forward-refused : (number place : ℕ)
+      → (forwardAnswer n l change buffer ≡ forwarded.Refused number place) ↔ FirstMet n l change (length buffer < outputsOf n) 20 number place
+  pub forward-untouched : (number place : ℕ) → forwardAnswer n l change buffer ≡ forwarded.Refused number place → forwardBuffer n l change buffer ≡ buffer
+  -- "CORE: the list's, 18, output not below O 19, then 21 if the search took more than P pins.": 21 is never met
+  pub core-done : (coreAnswer n l change output ≡ answered (searchOf n l change output .verdict) (searchOf n l change output .gates) (searchOf n l change output .pins))
+      ↔ (Accepted n l change × (output < outputsOf n))
+  pub core-refused : (number place : ℕ)
+      → (coreAnswer n l change output ≡ cored.Refused number place) ↔ FirstMet n l change (outputsOf n ≤ output) 19 number place
+
+-- Demand 2. "Every signal's class is the one that Kung's eight-valued tables give; the forward method and CORE call an output clean exactly when its
+-- class is 0, 1, R or F, and their counts are those of document 01's searches."
+pub record Demand2 (n l : List ℕ) (change : ℕ) : Type 0 where
+  -- an input's class is by its two bits, a gate's by the rule over all its pins
+  pub input-class : (i : ℕ) → i < inputsOf n → classIn n l change i ≡ inputClass (firstVector n l change i) (secondVector n l change i)
+  pub gate-class : (g : ℕ) → g < gatesOf n
+      → classIn n l change (inputsOf n + g) ≡ gateClass (gateKind n g) (map (classIn n l change) (gatePins n g))
+  -- full simulation writes these classes' codes
+  pub full-codes : (buffer : List ℕ) → fullAnswer n l change buffer ≡ simulated.Done → (s : ℕ) → s < inputsOf n + gatesOf n
+      → getD (fullBuffer n l change buffer) s 0 ≡ code (classIn n l change s)
+  -- every method calls an output clean exactly when its class is clean
+  pub verdicts : (m : Method) (output : ℕ) → output < outputsOf n → (called : Bool) → Calls m n l change output called
+      → called ≡ clean (classIn n l change (outputAt n output))
+  -- CORE's class is the signal's, its counts are the search's
+  pub core-clean : (output class gates pins : ℕ) → output < outputsOf n → coreAnswer n l change output ≡ cored.Clean class gates pins
+      → (class ≡ code (classIn n l change (outputAt n output))) × (gates ≡ searchOf n l change output .gates) × (pins ≡ searchOf n l change output .pins)
+  pub core-hazardous : (output gates pins : ℕ) → output < outputsOf n → coreAnswer n l change output ≡ cored.Hazardous gates pins
+      → (gates ≡ searchOf n l change output .gates) × (pins ≡ searchOf n l change output .pins)
+  -- the forward method's counts are those of its definition
+  pub forward-counts : (buffer : List ℕ) (touched visited : ℕ) → forwardAnswer n l change buffer ≡ forwarded.Done touched visited
+      → (touched ≡ touchedIn n l change) × (visited ≡ visitedIn n l change)
+
+-- Demand 3: "a single claim about the whole list of events, and not one for each event".
+-- An order that shows every hazard, "gate after gate and the same for every output and method"
+pub record ShowsAll (n l : List ℕ) (change : ℕ) (order : List Event) : Type 0 where
+  pub is-order : Order (cardOf n) (firstVector n l change) (secondVector n l change) order
+  pub gate-after-gate : GateAfterGate order
+  pub complete : Complete (cardOf n) (firstVector n l change) (secondVector n l change) order
+  -- "gives each output called hazardous at least two changes more than its ends need"
+  pub twice-more : (m : Method) (output : ℕ) → output < outputsOf n → Calls m n l change output false
+      → needs (cardOf n) (firstVector n l change) (secondVector n l change) (outputAt n output) + 2
+      ≤ (after (cardOf n) (firstVector n l change) (secondVector n l change) order) .changes (outputAt n output)
+
+pub record Demand3 (n l : List ℕ) (change : ℕ) : Type 0 where
+  -- "every list of events can be carried on to a complete one"
+  pub carried-on : (es : List Event) → (rest : List Event)
+      × AllowedFrom (cardOf n) (firstVector n l change) (secondVector n l change)
+      (after (cardOf n) (firstVector n l change) (secondVector n l change) es) rest
+      × Complete (cardOf n) (firstVector n l change) (secondVector n l change) (es ++ rest)
+  -- "after every complete list all signals are settled at the second vector"
+  pub settles : (es : List Event) → Complete (cardOf n) (firstVector n l change) (secondVector n l change) es → (s : ℕ)
+      → s < inputsOf n + gatesOf n
+      → signalValue (cardOf n) (firstVector n l change) (after (cardOf n) (firstVector n l change) (secondVector n l change) es) s
+      ≡ settled (cardOf n) (secondVector n l change) s
+  -- "after any list an output called clean has changed at most once, and not at all when its ends agree": at most as often as its ends need
+  pub stays-clean : (es : List Event) (m : Method) (output : ℕ) → output < outputsOf n → Calls m n l change output true
+      → (after (cardOf n) (firstVector n l change) (secondVector n l change) es) .changes (outputAt n output)
+      ≤ needs (cardOf n) (firstVector n l change) (secondVector n l change) (outputAt n output)
+  -- "one complete order"
+  pub hazard : (order : List Event) × ShowsAll n l change order

@@ -1,0 +1,1 @@
+// The three demands: statements in specs/, proofs in proofs/, no code that runs.

@@ -1,0 +1,56 @@
+-- What the forward method answers in each case, and what it leaves. Assumes nothing.
+use Prim.Native.Nat.{ℕ, _≤_, _<_}
+use native.Mathlib.Omega.{arith}
+use mathlib.Core.Path.{_≡_, refl, sym, _∙_, ap}
+use mathlib.Core.List.{List, _++_}
+use borrow.Author.Tests.{le-leb, lt-leb, lt-ltb, le-ltb}
+use lib.ListN.{length, getD, drop, List·getD-append}
+use Rattle.netlist.specs.Netlist.{outputsOf, placeOf}
+use Rattle.netlist.specs.Formed.{Formed}
+use Rattle.netlist.proofs.Accepted.{formed}
+use Rattle.changes.specs.declared.Listed.the-variants as list
+use Rattle.changes.specs.Refusals.{listChecked}
+use Rattle.changes.proofs.Laws.{tab-length}
+use Rattle.changes.proofs.Accepted.{listed}
+use Rattle.forward.specs.declared.Forwarded.the-variants.{Done, Refused}
+use Rattle.forward.specs.Forward.{touchedIn, forwardBytes, visitedIn, judged, forwardAnswer, forwardBuffer}
+
+module _ (n l : List ℕ) (change : ℕ) (buffer : List ℕ) where
+  pub refused-list : (number place : ℕ) → listChecked n l ≡ list.Refused number place
+      → (Refused number place ≡ forwardAnswer n l change buffer) × (buffer ≡ forwardBuffer n l change buffer)
+  unfolding forwardAnswer forwardBuffer judged
+  refused-list number place e = (rw e, rw e)
+
+  module _ {i g o p s t w : ℕ} (e : listChecked n l ≡ list.Accepted i g o p s t w) where
+    pub refused-change : t ≤ change → (Refused 18 0 ≡ forwardAnswer n l change buffer) × (buffer ≡ forwardBuffer n l change buffer)
+    unfolding forwardAnswer forwardBuffer judged
+    refused-change late = (rw (e, le-leb t change late), rw (e, le-leb t change late))
+
+    module _ (early : change < t) where
+      pub refused-room : length buffer < o → (Refused 20 0 ≡ forwardAnswer n l change buffer) × (buffer ≡ forwardBuffer n l change buffer)
+      unfolding forwardAnswer forwardBuffer judged
+      refused-room small =
+          (rw (e, lt-leb t change early, lt-ltb (length buffer) o small), rw (e, lt-leb t change early, lt-ltb (length buffer) o small))
+
+      bytes-length : length (forwardBytes n l change) ≡ o
+      unfolding forwardBytes
+      bytes-length = tab-length _ 0 (outputsOf n) ∙ sym (formed n (listed n l e .netlist-accepted) .outputs-are)
+
+      pub done : o ≤ length buffer → (touched visited : ℕ) → touched ≡ touchedIn n l change → visited ≡ visitedIn n l change → (exit : List ℕ)
+          → exit ≡ forwardBytes n l change ++ drop o buffer
+          → (Done touched visited ≡ forwardAnswer n l change buffer) × (exit ≡ forwardBuffer n l change buffer)
+      unfolding forwardAnswer forwardBuffer judged
+      done room touched visited t v exit x = (
+        rw (e, lt-leb _ change early, le-ltb (length buffer) o room, t, v),
+        rw (e, lt-leb _ change early, le-ltb (length buffer) o room, bytes-length) x,
+      )
+
+      -- byte for byte: the outputs' bytes
+      pub buffer-byte : o ≤ length buffer → (out : ℕ) → out < o → getD (forwardBuffer n l change buffer) out 0 ≡ getD (forwardBytes n l change) out 0
+      buffer-byte room out h =
+          ap (λ b. getD b out 0) (sym (done room _ _ refl refl _ refl .1))
+          ∙ List·getD-append (forwardBytes n l change) (drop o buffer) 0 out (rw bytes-length h)
+
+-- the index has room for the places of the records
+pub places-fit : {i g o p e : ℕ} (n : List ℕ) → Formed n i g o p e → (g ≤ 2048) × (placeOf n g ≤ 65535)
+places-fit {g = g} n f = (f .gates-high, omega (arith, f .place-high g (omega arith), f .gates-high))

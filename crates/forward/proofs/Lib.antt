@@ -1,0 +1,7 @@
+pub mod Constants
+pub mod Theorems
+pub mod Answers
+pub mod Cases
+mod Bytes
+mod Changes
+mod Outputs

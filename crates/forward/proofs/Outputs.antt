@@ -1,0 +1,74 @@
+-- Laws of the outputs' searches. Assumes nothing.
+use Prim.Native.Nat.{ℕ, suc, _+_, _*_, _≤_, _<_}
+use native.Mathlib.Omega.{arith}
+use native.Mathlib.Nat.{zero-add, add-comm}
+use native.Mathlib.Numerals.{add-one}
+use mathlib.Core.Path.{_≡_, refl, _∙_, ap, ap₂}
+use mathlib.Core.Bool.{Bool, true, false, cond}
+use mathlib.Core.List.{List, [], _∷_}
+use lib.Dec.{ltb}
+use lib.ListN.{length, set, length-replicate}
+use Rattle.kung.specs.Class.{Class}
+use Rattle.kung.specs.Sets.{setOf}
+use Rattle.kung.specs.Operation.{opOf, unit}
+use Rattle.circuit.specs.Circuit.{Source, given, gate}
+use Rattle.netlist.specs.Words.{wordAt}
+use Rattle.changes.specs.Changes.{written}
+use Rattle.changes.proofs.Laws.{written-more}
+use Rattle.search.specs.Search as search
+use Rattle.search.specs.Search.{search, visit, begin, fresh, nobody, total, gatesVisited}
+use Rattle.search.specs.Pins.{sumBelow}
+use Rattle.search.proofs.Writes.{visit-length}
+use Rattle.core.specs.Source.{sourceFrom}
+use Rattle.core.specs.Found.{foundOf, verdictCode}
+use Rattle.core.specs.declared.Found.{Found}
+use Rattle.forward.specs.Forward.{verdictByte}
+use Rattle.forward.specs.Outputs.{byteOf, searchFrom, byteFrom, visitedFrom}
+
+-- a search visits no more gates than it has cells
+visited-few : (cells : List ℕ) → gatesVisited cells ≤ length cells
+unfolding total
+visited-few [] = omega arith
+visited-few (b ∷ cells) = go (ltb b 128) (visited-few cells)
+  where
+    go : (new : Bool) → gatesVisited cells ≤ length cells → cond new 0 1 + gatesVisited cells ≤ suc (length cells)
+    go true h = omega arith
+    go false h = omega arith
+
+search-few : (src : ℕ → Source Class) (w s : ℕ) → (search src w s) .gates ≤ suc s
+unfolding search
+search-few src w s = go (src s)
+  where
+    go : (c : Source Class) → (begin src (suc s) c w s (fresh (suc s))) .gates ≤ suc s
+    go (given k) = omega arith
+    go (gate d ps) =
+        omega (
+          arith,
+          visited-few (visit src (suc s) s (unit (opOf d)) 0 w nobody (fresh (suc s)) .1),
+          visit-length src (suc s) s (unit (opOf d)) 0 w nobody (fresh (suc s)),
+          length-replicate {A = ℕ} (suc s) 0,
+        )
+
+byte-code : (v : search.Verdict) → byteOf (verdictCode v) ≡ verdictByte v
+byte-code (search.clean k) = refl
+byte-code search.hazardous = refl
+
+-- what is found of output o
+module _ (netlist known : List ℕ) (entries o s : ℕ) (at : s ≡ wordAt netlist (entries + 2 * o)) (found : Found)
+    (is : found ≡ foundOf (search (sourceFrom netlist known) 15 s)) where
+  found-is : found ≡ foundOf (searchFrom netlist known entries o)
+  unfolding searchFrom setOf
+  found-is = is ∙ ap (λ s. foundOf (search (sourceFrom netlist known) 15 s)) at
+
+  pub found-few : found .gates ≤ suc s
+  found-few = rw is (search-few (sourceFrom netlist known) 15 s)
+
+  pub found-next : (visited : ℕ) → visited ≡ visitedFrom netlist known entries o → visited + found .gates ≡ visitedFrom netlist known entries (o + 1)
+  unfolding sumBelow
+  found-next visited e = rw (e, add-one o, found-is) (add-comm _ _)
+
+  pub found-byte : (old now : List ℕ) → now ≡ written old 0 (byteFrom netlist known entries) o → o < length old → (byte : ℕ) → byte ≡ byteOf (found .verdict)
+      → set now o byte ≡ written old 0 (byteFrom netlist known entries) (o + 1)
+  found-byte old now e h byte b =
+      ap₂ (λ now byte. set now o byte) e (b ∙ ap (λ f. byteOf (f .verdict)) found-is ∙ byte-code ((searchFrom netlist known entries o) .verdict))
+      ∙ rw zero-add at (written-more old 0 (byteFrom netlist known entries) o (rw zero-add h))

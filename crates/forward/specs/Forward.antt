@@ -1,0 +1,67 @@
+-- Document 01, "The forward method" and "Turned back, by operation": the forward method on a change.
+use Prim.Native.Nat.{ℕ, _+_}
+use mathlib.Core.Bool.{Bool, cond}
+use mathlib.Core.List.{List, _++_}
+use mathlib.Core.Option.{Option}
+use lib.Dec.{leb, ltb}
+use lib.ListN.{length, drop}
+use Rattle.kung.specs.Class.{Class}
+use Rattle.kung.specs.Sets.{cleanSet}
+use Rattle.kung.specs.Tables.{tab}
+use Rattle.netlist.specs.Netlist.{inputsOf, gatesOf, outputsOf, outputAt, cardOf}
+use Rattle.changes.specs.declared.Listed.{Listed}
+use Rattle.changes.specs.declared.Listed.the-variants as list
+use Rattle.changes.specs.Changes.{sourcesOf}
+use Rattle.changes.specs.Refusals.{listChecked}
+use Rattle.search.specs.Search.{Verdict, clean, hazardous, Answer, search}
+use Rattle.search.specs.Pins.{sumBelow}
+use Rattle.forward.specs.Constants.{constants, knownSources, touched}
+use Rattle.forward.specs.declared.Forwarded.{Forwarded}
+use Rattle.forward.specs.declared.Forwarded.the-variants.{Done, Refused}
+
+-- the constants in change t
+abbrev pub constantsIn : (netlist list : List ℕ) → (t signal : ℕ) → Option Class
+constantsIn n l t = constants (sourcesOf n l t) (inputsOf n + gatesOf n)
+
+unfoldable pub touchedIn : (netlist list : List ℕ) → (t : ℕ) → ℕ
+touchedIn n l t = touched (cardOf n) (constantsIn n l t)
+
+-- "Each output is then searched as in CORE, afresh, constant gates being known; one on a constant signal is clean with 0 gates visited."
+unfoldable pub outputSearch : (netlist list : List ℕ) → (t output : ℕ) → Answer
+outputSearch n l t o = search (knownSources (sourcesOf n l t) (inputsOf n + gatesOf n)) cleanSet (outputAt n o)
+
+-- "The first O bytes of a lent buffer get 0 (clean) or 1 (hazardous)"
+abbrev pub verdictByte : Verdict → ℕ
+verdictByte (clean k) = 0
+verdictByte hazardous = 1
+
+unfoldable pub forwardBytes : (netlist list : List ℕ) → (t : ℕ) → List ℕ
+forwardBytes n l t = tab (λ o. verdictByte ((outputSearch n l t o) .verdict)) 0 (outputsOf n)
+
+-- "the sum of gates visited over all outputs"
+unfoldable pub visitedIn : (netlist list : List ℕ) → (t : ℕ) → ℕ
+visitedIn n l t = sumBelow (λ o. (outputSearch n l t o) .gates) (outputsOf n)
+
+-- "In the order below, the first condition met is the refusal"; "Places from 18 up are 0 unless given otherwise."
+abbrev pub refuse : Bool → (number : ℕ) → Forwarded → Forwarded
+refuse test number next = cond test (Refused number 0) next
+
+-- "Forward: the list's, 18, buffer under O 20."
+unfoldable pub judged : Listed → (change room : ℕ) → Forwarded → Forwarded
+judged (list.Refused number place) change room next = Refused number place
+judged (list.Accepted inputs gates outputs pins entries changes width) change room next =
+    refuse (leb changes change) 18
+    (refuse (ltb room outputs) 20
+    next)
+
+-- "returned are the touched count and the sum of gates visited over all outputs"
+unfoldable pub forwardAnswer : (netlist list : List ℕ) → (change : ℕ) → (buffer : List ℕ) → Forwarded
+forwardAnswer n l change buffer = judged (listChecked n l) change (length buffer) (Done (touchedIn n l change) (visitedIn n l change))
+
+-- "later bytes stay"; a refused call leaves the buffer as it was
+abbrev pub left : Forwarded → (written buffer : List ℕ) → List ℕ
+left (Done touched visited) written buffer = written ++ drop (length written) buffer
+left (Refused number place) written buffer = buffer
+
+unfoldable pub forwardBuffer : (netlist list : List ℕ) → (change : ℕ) → (buffer : List ℕ) → List ℕ
+forwardBuffer n l change buffer = left (forwardAnswer n l change buffer) (forwardBytes n l change) buffer

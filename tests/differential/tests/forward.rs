@@ -1,0 +1,234 @@
+//! `lane_forward` against the reference: the bytes of the whole buffer, the
+//! touched count and the sum of gates visited.
+
+use reference::cases;
+use reference::changes;
+use reference::classes::Class;
+use reference::forward::forward;
+use reference::netlist::{Card, Gate, Kind, MAX_GATES, MAX_INPUTS};
+use reference::random::{self, Random, Shape, SHAPES};
+
+extern "C" {
+    #[allow(clippy::too_many_arguments)]
+    fn lane_forward(
+        netlist: *const u8,
+        netlist_len: usize,
+        list: *const u8,
+        list_len: usize,
+        change: usize,
+        buffer: *mut u8,
+        buffer_len: usize,
+        answer: *mut u64,
+    ) -> u32;
+}
+
+/// The library's answer: the refusal number (0 none) and the five values.
+fn library(netlist: &[u8], list: &[u8], change: usize, buffer: &mut [u8]) -> (u32, [u64; 5]) {
+    let mut answer = [u64::MAX; 5];
+    // SAFETY: the slices, the buffer and the five values live through the call.
+    let number = unsafe {
+        lane_forward(
+            netlist.as_ptr(),
+            netlist.len(),
+            list.as_ptr(),
+            list.len(),
+            change,
+            buffer.as_mut_ptr(),
+            buffer.len(),
+            answer.as_mut_ptr(),
+        )
+    };
+    (number, answer)
+}
+
+fn expected(netlist: &[u8], list: &[u8], change: usize, buffer: &mut [u8]) -> (u32, [u64; 5]) {
+    match forward(netlist, list, change, buffer) {
+        Ok(counts) => (0, [counts.touched, counts.visited, 0, 0, 0]),
+        Err(refused) => (refused.number, [refused.place, 0, 0, 0, 0]),
+    }
+}
+
+/// What a run of comparisons has seen.
+#[derive(Default)]
+struct Seen {
+    compared: usize,
+    outputs: usize,
+    hazardous: usize,
+    untouched: usize,
+    without_search: usize,
+}
+
+impl Seen {
+    fn note(&mut self, bytes: &[u8], answer: [u64; 5]) {
+        self.compared += 1;
+        self.outputs += bytes.len();
+        self.hazardous += bytes.iter().filter(|byte| **byte == 1).count();
+        self.untouched += usize::from(answer[0] == 0);
+        self.without_search += usize::from(answer[1] == 0);
+    }
+
+    fn print(&self, name: &str) {
+        println!(
+            "forward {name}: {} calls compared, {} of {} outputs hazardous, \
+             {} untouched, {} without a visit",
+            self.compared, self.hazardous, self.outputs, self.untouched, self.without_search
+        );
+    }
+}
+
+/// Compares answers and buffers; gives back the answer and the buffer.
+fn compare(netlist: &[u8], list: &[u8], change: usize, length: usize) -> (u32, [u64; 5], Vec<u8>) {
+    let filled: Vec<u8> = (0..length).map(|at| 0xA0 | (at as u8 % 16)).collect();
+    let (mut found, mut wanted) = (filled.clone(), filled.clone());
+    let answer = library(netlist, list, change, &mut found);
+    let right = expected(netlist, list, change, &mut wanted);
+    assert_eq!(answer, right, "change {change} buffer {length}");
+    assert_eq!(found, wanted, "change {change} buffer {length}");
+    if right.0 != 0 {
+        assert_eq!(found, filled, "a refusal leaves the buffer");
+    }
+    (right.0, right.1, found)
+}
+
+/// All changes, buffers equal and longer.
+fn compare_card(seen: &mut Seen, random: &mut Random, card: &Card, count: usize) {
+    let (netlist, list) = random::files(random, card, count);
+    let outputs = card.outputs.len();
+    for change in 0..count {
+        let longer = random.pick(&[0, 1, 7, 100]);
+        let (number, values, buffer) = compare(&netlist, &list, change, outputs + longer);
+        assert_eq!(number, 0);
+        seen.note(&buffer[..outputs], values);
+    }
+}
+
+#[test]
+fn mux_and_its_mending() {
+    let (netlist, list) = (cases::mux_netlist(), cases::mux_list());
+    let mut buffer = [0xEE; 2];
+    assert_eq!(
+        library(&netlist, &list, 0, &mut buffer),
+        (0, [2, 4, 0, 0, 0])
+    );
+    assert_eq!(buffer, [1, 0xEE]);
+    let netlist = cases::mended_mux().to_bytes();
+    let change = vec![Class::One, Class::One, Class::Fall];
+    let list = changes::to_bytes(&netlist, &[change]);
+    assert_eq!(
+        library(&netlist, &list, 0, &mut buffer),
+        (0, [4, 0, 0, 0, 0])
+    );
+    assert_eq!(buffer, [0, 0xEE]);
+}
+
+#[test]
+fn cards_of_every_shape() {
+    let mut random = Random::new(51);
+    let mut seen = Seen::default();
+    for shape in SHAPES {
+        for _ in 0..600 {
+            let (inputs, gates) = (random.from_to(1, 20), random.below(80));
+            let outputs = random.from_to(1, 9);
+            let card = random::card(&mut random, shape, inputs, gates, outputs);
+            compare_card(&mut seen, &mut random, &card, 3);
+        }
+        for (inputs, gates) in [
+            (1, 0),
+            (1, MAX_GATES),
+            (MAX_INPUTS, 0),
+            (MAX_INPUTS, MAX_GATES),
+        ] {
+            let card = random::card(&mut random, shape, inputs, gates, 64);
+            compare_card(&mut seen, &mut random, &card, 2);
+        }
+    }
+    for _ in 0..100 {
+        let card = random::any_card(&mut random);
+        compare_card(&mut seen, &mut random, &card, 2);
+    }
+    let widest = random::widest_card(&mut random);
+    compare_card(&mut seen, &mut random, &widest, 4);
+    assert!(seen.hazardous > 2000 && seen.outputs - seen.hazardous > 2000);
+    assert!(seen.untouched > 200 && seen.without_search > 200);
+    seen.print("shapes");
+}
+
+/// Constants that travel far: each gate of a chain follows from the one before
+/// it, and gates that no output reaches count as touched too.
+#[test]
+fn long_chains() {
+    let mut random = Random::new(52);
+    let mut seen = Seen::default();
+    for kind in [Kind::Not, Kind::Buffer, Kind::And, Kind::Nor] {
+        let count = *kind.pin_limits().start();
+        let gates = (0..MAX_GATES)
+            .map(|number| Gate {
+                kind,
+                pins: (0..count).map(|pin| (1 + number) * (1 - pin % 2)).collect(),
+            })
+            .collect();
+        let card = Card {
+            inputs: 2,
+            gates,
+            outputs: vec![MAX_GATES + 1, MAX_GATES + 1, 5, 0],
+        };
+        compare_card(&mut seen, &mut random, &card, 40);
+    }
+    seen.print("long chains");
+}
+
+#[test]
+fn buffers_of_every_length() {
+    let mut random = Random::new(53);
+    let mut compared = 0;
+    for outputs in [1, 2, 5, 63, 64] {
+        let card = random::card(&mut random, Shape::Shared, 6, 70, outputs);
+        let (netlist, list) = random::files(&mut random, &card, 1);
+        for length in 0..outputs + 5 {
+            let (number, _, _) = compare(&netlist, &list, 0, length);
+            assert_eq!(number, if length < outputs { 20 } else { 0 });
+            compared += 1;
+        }
+    }
+    println!("forward buffers: {compared} calls compared");
+}
+
+#[test]
+fn change_numbers() {
+    let mut random = Random::new(54);
+    let mut compared = 0;
+    for count in [0, 1, 2, 300] {
+        let card = random::card(&mut random, Shape::Hubs, 9, 20, 2);
+        let (netlist, list) = random::files(&mut random, &card, count);
+        let past = [count, count + 1, count + 256, 65_536, 1 << 32, 1 << 63];
+        for change in past.into_iter().chain([usize::MAX]) {
+            // 18 comes before 20, so the length does not matter.
+            for length in [0, 1, 2, 50] {
+                assert_eq!(compare(&netlist, &list, change, length).0, 18);
+                compared += 1;
+            }
+        }
+    }
+    println!("forward change numbers: {compared} calls compared");
+}
+
+#[test]
+fn damaged_files() {
+    let mut random = Random::new(55);
+    let mut met = [0; 22];
+    for _ in 0..3000 {
+        let card = random::small_card(&mut random);
+        let (mut netlist, mut list) = random::files(&mut random, &card, 2);
+        match random.below(3) {
+            0 => random::damage_netlist(&mut random, &card, &mut netlist),
+            _ => random::damage_list(&mut random, card.inputs, &mut list),
+        }
+        let change = random.pick(&[0, 1, 2, usize::MAX]);
+        let length = random.pick(&[0, 1, 6, 70]);
+        met[compare(&netlist, &list, change, length).0 as usize] += 1;
+    }
+    for number in (0..=18).chain([20]) {
+        assert!(met[number] > 0, "refusal {number} not met: {met:?}");
+    }
+    println!("forward damaged: 3000 calls compared, by number {met:?}");
+}
