@@ -4,7 +4,7 @@ use Prim.Native.Nat.{ℕ, zero, suc, _+_, _-_, _≤_, _<_}
 use native.Mathlib.Omega.{arith}
 use native.Mathlib.Nat.{add-zero, add-suc, add-sub-cancel-left, le-trans}
 use native.Mathlib.Decide.{decLt}
-use mathlib.Core.Path.{_≡_, refl, sym, _∙_, ap}
+use mathlib.Core.Path.{_≡_, refl, _∙_, ap}
 use mathlib.Core.Bool.{true}
 use mathlib.Core.List.{List, _++_}
 use lib.ListN.{length, getD, replicate, length-append, length-replicate, getD-replicate, List·getD-append, List·getD-eq-default}
@@ -22,7 +22,7 @@ use Rattle.search.specs.Search.{search}
 use Rattle.search.specs.Pins.{sumBelow, pinsIn}
 use Rattle.search.proofs.Writes.{closed-all}
 use Rattle.search.proofs.Counts.{search-pins}
-use Rattle.core.specs.Source.{placeFrom, kindFrom, countFrom, pinsFrom, sourceFrom, GatesOnly, inputsKnown, Ready}
+use Rattle.core.specs.Source.{kindFrom, pinsFrom, sourceFrom, GatesOnly, inputsKnown, Ready}
 use Rattle.core.proofs.Codes.{code-small}
 use Rattle.core.proofs.Sources.{source-given, source-gate}
 
@@ -132,6 +132,7 @@ ready {images} {wanteds} {known} {inputs} {gates} netlist places rest i w formed
       images-are = i;
       wanteds-are = w;
       indexed = record { inputs-are = formed .inputs-are; gates-only = only; placed = placed };
+      few-signals = omega (arith, formed .inputs-are, formed .gates-are, formed .inputs-high, formed .gates-high);
       few-pins = λ g h. formed .records g (omega (arith, formed .gates-are)) .count-eight;
       well-formed = formed .well-formed;
     }

@@ -1,7 +1,7 @@
 -- What the code's tests say of a gate's checks, and of what stands behind a pin. Assumes nothing.
 use Prim.Native.Nat.{ℕ, _+_, _≤_, _<_}
 use native.Mathlib.Omega.{arith}
-use mathlib.Core.Path.{_≡_, refl, _∙_}
+use mathlib.Core.Path.{_≡_, refl}
 use mathlib.Core.List.{List}
 use mathlib.Core.Option.{Option, none, some}
 use lib.Bits.{bitAnd}
@@ -16,8 +16,6 @@ use Rattle.netlist.specs.Netlist.{kindAt, countAt}
 use Rattle.netlist.proofs.Laws.{words-length}
 use Rattle.search.specs.Search.{nextOf, cellOf, possibleOf, only, Waiting, sameResult, knownOr, checks, toldOr, driverOf}
 use Rattle.search.proofs.Steps.{left-is}
-use Rattle.core.specs.declared.Ending.the-variants.{Stopped, Known, Unfinished}
-use Rattle.core.specs.declared.Check.the-variants.{Ends, GoesOn}
 use Rattle.core.specs.declared.Driver.the-variants.{Told, Behind}
 use Rattle.core.specs.Source.{gateAt}
 use Rattle.core.specs.Found.{codeOr, checkOf, driverCode}
@@ -25,34 +23,34 @@ use Rattle.core.proofs.Codes.{code-small, meets-and}
 
 -- the checks of a possible set m, in order
 module _ (m w : ℕ) (wt : Waiting) (byte : m < 256) where
-  pub check-a : bitAnd m w ≡ 0 → Ends Stopped ≡ checkOf (checks m w wt)
+  pub check-a : bitAnd m w ≡ 0 → 16 ≡ checkOf (checks m w wt)
   unfolding checks
   check-a e = rw (meets-and m w byte, eq-eqb (bitAnd m w) 0 e)
 
   module _ (shares : bitAnd m w ≡ 0 → ⊥) where
-    pub check-b : codeOr (only m) < 8 → Ends (Known (codeOr (only m))) ≡ checkOf (checks m w wt)
+    pub check-b : codeOr (only m) < 8 → codeOr (only m) ≡ checkOf (checks m w wt)
     unfolding checks
     check-b h = rw (meets-and m w byte, ne-eqb (bitAnd m w) 0 shares) (go (only m) h)
       where
-        go : (k : Option Class) → codeOr k < 8 → Ends (Known (codeOr k)) ≡ checkOf (knownOr k (sameResult wt m))
+        go : (k : Option Class) → codeOr k < 8 → codeOr k ≡ checkOf (knownOr k (sameResult wt m))
         go (some k) h = refl
         go none h = absurd (omega arith)
 
     module _ (several : 8 ≤ codeOr (only m)) where
-      pub check-c : codeOr (sameResult wt m) < 8 → Ends (Unfinished (codeOr (sameResult wt m))) ≡ checkOf (checks m w wt)
+      pub check-c : codeOr (sameResult wt m) < 8 → 8 + codeOr (sameResult wt m) ≡ checkOf (checks m w wt)
       unfolding checks
       check-c h = rw (meets-and m w byte, ne-eqb (bitAnd m w) 0 shares) (go (only m) (sameResult wt m) several h)
         where
-          go : (k r : Option Class) → 8 ≤ codeOr k → codeOr r < 8 → Ends (Unfinished (codeOr r)) ≡ checkOf (knownOr k r)
+          go : (k r : Option Class) → 8 ≤ codeOr k → codeOr r < 8 → 8 + codeOr r ≡ checkOf (knownOr k r)
           go (some k) r l h = absurd (omega (arith, code-small k))
           go none (some r) l h = refl
           go none none l h = absurd (omega arith)
 
-      pub check-on : 8 ≤ codeOr (sameResult wt m) → GoesOn ≡ checkOf (checks m w wt)
+      pub check-on : 8 ≤ codeOr (sameResult wt m) → 17 ≡ checkOf (checks m w wt)
       unfolding checks
       check-on h = rw (meets-and m w byte, ne-eqb (bitAnd m w) 0 shares) (go (only m) (sameResult wt m) several h)
         where
-          go : (k r : Option Class) → 8 ≤ codeOr k → 8 ≤ codeOr r → GoesOn ≡ checkOf (knownOr k r)
+          go : (k r : Option Class) → 8 ≤ codeOr k → 8 ≤ codeOr r → 17 ≡ checkOf (knownOr k r)
           go (some k) r l h = absurd (omega (arith, code-small k))
           go none (some r) l h = absurd (omega (arith, code-small r))
           go none none l h = refl

@@ -1,18 +1,19 @@
 -- The answers of a search, as the code makes them. Assumes nothing.
-use Prim.Native.Nat.{ℕ, suc, _≤_, _<_}
+use Prim.Native.Nat.{ℕ, suc, _+_, _≤_, _<_}
 use native.Mathlib.Omega.{arith}
-use mathlib.Core.Path.{_≡_, refl, sym, _∙_, ap}
+use mathlib.Core.Path.{_≡_, refl, _∙_, ap}
 use mathlib.Core.List.{List}
 use lib.ListN.{getD}
+use borrow.Author.Tests.{lt-ltb, le-ltb}
 use Rattle.kung.specs.Class.{code, ofCode}
 use Rattle.kung.specs.Operation.{opOf, unit}
 use Rattle.kung.proofs.Finite.{ofCode-code}
 use Rattle.search.specs.Search.{nobody, Outcome, stopped, known, unfinished, Ended, visit, fresh, total, visitedOf, nextOf, judged, verdictOf, answerOf, search}
-use Rattle.core.specs.declared.Ending.{Ending}
 use Rattle.core.specs.declared.Verdict.{Verdict}
 use Rattle.core.specs.declared.Found.{Found}
 use Rattle.core.specs.Source.{sourceFrom, kindFrom}
 use Rattle.core.specs.Found.{waitingOf, endingOf, endedOf, verdictCode, verdictFrom, foundOf, Visits}
+use Rattle.core.proofs.Codes.{code-small}
 use Rattle.core.proofs.Sources.{source-given, source-gate}
 
 module _ (netlist known : List ℕ) (w s : ℕ) (verdict : Verdict) where
@@ -23,11 +24,11 @@ module _ (netlist known : List ℕ) (w s : ℕ) (verdict : Verdict) where
 
 verdict-ended : (e : Outcome) → verdictFrom (endingOf e) ≡ verdictCode (verdictOf e)
 verdict-ended stopped = refl
-verdict-ended (known k) = refl
-verdict-ended (unfinished r) = refl
+verdict-ended (known k) = rw (lt-ltb (code k) 8 (code-small k))
+verdict-ended (unfinished r) = rw (le-ltb (8 + code r) 8 (omega arith))
 
 module _ (netlist known : List ℕ) (w s : ℕ) (searched : 8 ≤ getD known s 0) (from : ℕ) (begins : from ≡ code (unit (opOf (kindFrom netlist s))))
-    (entry : List ℕ) (afresh : entry ≡ fresh (suc s)) (r : Ending) (cells : List ℕ) (visits : Visits netlist known s from 0 w 16 entry cells r) where
+    (entry : List ℕ) (afresh : entry ≡ fresh (suc s)) (r : ℕ) (cells : List ℕ) (visits : Visits netlist known s from 0 w 16 entry cells r) where
   pub found-visited : (found : Found) → found .verdict ≡ verdictFrom r → found .gates ≡ total visitedOf cells → found .pins ≡ total nextOf cells
       → found ≡ foundOf (search (sourceFrom netlist known) w s)
   unfolding search waitingOf

@@ -53,5 +53,6 @@ pub record Ready (images wanteds netlist places known : List ℕ) (inputs : ℕ)
   pub images-are : images ≡ imageTable
   pub wanteds-are : wanteds ≡ wantedTable
   pub indexed : Indexed netlist places known inputs
+  pub few-signals : inputsOf netlist + gatesOf netlist ≤ 2304
   pub few-pins : (g : ℕ) → g < gatesOf netlist → countAt netlist (placeOf netlist g) ≤ 8
   pub well-formed : WellFormed (cardOf netlist)

@@ -1,21 +1,20 @@
 // CORE: the search of one output.
 ghost use mathlib.Core.Path.{_≡_};
-ghost use mathlib.Core.Bool.{true};
-ghost use Prim.Native.Nat.{suc, _+_, _*_, _-_, _^_, _≤_, _<_};
+ghost use Prim.Native.Nat.{_+_, _-_, _≤_, _<_};
 ghost use lib.Dec.{ltb};
-ghost use lib.ListN.{length, getD, replicate};
+ghost use lib.ListN.{length, getD};
 ghost use Rattle.kung.specs.Class.{code, ofCode};
 ghost use Rattle.kung.specs.Rule.{kindOf};
-ghost use Rattle.kung.specs.Operation.{opCode, opOf, inverts, join, unit};
+ghost use Rattle.kung.specs.Operation.{opCode, opOf, inverts, unit};
 ghost use Rattle.kung.specs.Sets.{has, possible, wantedFor};
 ghost use Rattle.kung.specs.Tables.{imageTable, wantedTable};
-ghost use Rattle.netlist.specs.Netlist.{inputsOf, kindAt, countAt, pinAt};
-ghost use Rattle.search.specs.Search.{kept, byteOf, cellOf, cellAt, put, fresh, sameResult, waits, driverOf, checks, judged, visitedOf, nextOf, total, search};
+ghost use Rattle.netlist.specs.Netlist.{kindAt, countAt};
+ghost use Rattle.search.specs.Search.{kept, cellOf, cellAt, put, fresh, sameResult, waits, driverOf, checks, judged, visitedOf, nextOf, total, search};
 ghost use Rattle.core.specs.Source.{gateAt, sourceFrom, countFrom, Indexed, Ready};
 ghost use Rattle.kung.specs.Sets.{cleanSet};
 ghost use Rattle.changes.specs.Changes.{sourcesOf};
 ghost use Rattle.core.specs.Core.{Searchable, guardedFound, coreAnswer};
-ghost use Rattle.core.specs.Found.{waitingOf, codeOr, endingOf, checkOf, driverCode, verdictCode, verdictFrom, foundOf, Visits, Takes};
+ghost use Rattle.core.specs.Found.{waitingOf, codeOr, checkOf, carriedFrom, driverCode, verdictCode, verdictFrom, foundOf, Visits, Takes};
 use changes::Listed;
 use kung::image_of;
 use kung::joined;
@@ -26,18 +25,16 @@ use netlist::count_at;
 use netlist::kind_at;
 use netlist::pin_at;
 
-// How a visit ends.
-enum Ending {
-    Stopped,
-    Known { class: u8 },
-    Unfinished { result: u8 },
-}
+// How a visit ends, as a number: the class of a gate that is known, UNFINISHED and the result that the waiting gate takes, or STOPPED.
+const UNFINISHED: u8 = 8;
 
-// What a gate's checks find.
-enum Check {
-    Ends { ending: Ending },
-    GoesOn,
-}
+const STOPPED: u8 = 16;
+
+// The checks let the visit go on.
+const GOES_ON: u8 = 17;
+
+// No gate waits for the output's.
+const NOBODY: u8 = 16;
 
 // What stands behind a pin: a class, or a gate to visit.
 enum Driver {
@@ -57,7 +54,7 @@ pub struct Found {
     pub pins: usize,
 }
 
-// The operation of a kind of gate: 0 AND, 1 OR.
+// The operation of a kind of gate, 0 AND or 1 OR, and whether it inverts.
 fn operation_of(kind: u8) -> u8
     ensures { λ r. ⌜ r ≡ opCode (opOf (kindOf kind)) ⌝ }
 {
@@ -83,13 +80,14 @@ fn unit_of(kind: u8) -> u8
     1 - operation_of(kind)
 }
 
-// A gate that waits with p, as a number; 16 stands for nobody.
+// A gate that waits with p, as a number below NOBODY.
 fn waiter_of(kind: u8, p: u8) -> u8
     ensures { λ r. ⌜ waitingOf r ≡ waits (opOf (kindOf kind)) (ofCode p) ⌝ }
 {
     8 * operation_of(kind) + p % 8
 }
 
+// A visited gate's cell is written.
 fn keep(cells: &mut [u8], s: usize, p: u8, next: u8)
     requires { ⌜ (s < length (now cells)) × (next < 16) ⌝ }
     ensures { λ r. ⌜ now (cells .exit) ≡ put (now (cells .entry)) s (kept (ofCode p) next) ⌝ }
@@ -102,7 +100,7 @@ fn same_result_of(images: &[u8; 4096], waiter: u8, set: u8) -> u8
     requires { ⌜ now images ≡ imageTable ⌝ }
     ensures { λ r. ⌜ r ≡ codeOr (sameResult (waitingOf waiter) set) ⌝ }
 {
-    if waiter < 16 {
+    if waiter < NOBODY {
         only_class(image_of(images, waiter / 8, waiter, set))
     } else {
         8
@@ -110,29 +108,35 @@ fn same_result_of(images: &[u8; 4096], waiter: u8, set: u8) -> u8
 }
 
 // A gate's checks, in order.
-fn check_gate(images: &[u8; 4096], kind: u8, p: u8, left: bool, wanted: u8, waiter: u8) -> Check
+fn check_gate(images: &[u8; 4096], kind: u8, p: u8, left: bool, wanted: u8, waiter: u8) -> u8
     requires { ⌜ now images ≡ imageTable ⌝ }
     ensures { λ r. ⌜ r ≡ checkOf (checks (possible (opOf (kindOf kind)) (inverts (kindOf kind)) (ofCode p) left) wanted (waitingOf waiter)) ⌝ }
 {
     let set = possible_set(images, operation_of(kind), is_inverting(kind), p, left);
     let class = only_class(set);
     if set & wanted == 0 {
-        return Check::Ends {
-            ending: Ending::Stopped,
-        };
+        return STOPPED;
     }
     if class < 8 {
-        return Check::Ends {
-            ending: Ending::Known { class: class },
-        };
+        return class;
     }
     let result = same_result_of(images, waiter, set);
     if result < 8 {
-        return Check::Ends {
-            ending: Ending::Unfinished { result: result },
-        };
+        return UNFINISHED + result;
     }
-    Check::GoesOn
+    GOES_ON
+}
+
+// The waiting gate's p after a visit behind it that did not stop the search.
+fn carry(images: &[u8; 4096], kind: u8, p: u8, ending: u8) -> u8
+    requires { ⌜ (now images ≡ imageTable) × (ending < 16) ⌝ }
+    ensures { λ r. ⌜ r ≡ code (carriedFrom ending (opOf (kindOf kind)) (ofCode p)) ⌝ }
+{
+    if ending < UNFINISHED {
+        joined(images, operation_of(kind), p, ending)
+    } else {
+        ending - UNFINISHED
+    }
 }
 
 // The place of the record of signal s's gate.
@@ -221,7 +225,7 @@ fn driver_at(
     gate_driver(images, netlist, place_of(places, inputs, x), cells[x])
 }
 
-// A visit of signal s, whose gate has p and takes its pin `next` next. Its pins are taken in turn, until a check ends the visit.
+// A visit of signal s, whose gate starts from p `from` and pin `first`: its pins are taken in turn, until the checks end the visit.
 fn visit(
     images: &[u8; 4096],
     wanteds: &[u8; 4608],
@@ -235,7 +239,7 @@ fn visit(
     first: u8,
     wanted: u8,
     waiter: u8,
-) -> Ending
+) -> u8
     requires { ⌜ Ready (now images) (now wanteds) (now netlist) (now places) (now known) inputs ⌝ }
     requires { ⌜ (8 ≤ getD (now known) s 0) × (s < length (now cells)) × (first < 16) ⌝ }
     ensures { λ r. ⌜ Visits (now (netlist .entry)) (now (known .entry)) s from first wanted waiter (now (cells .entry)) (now (cells .exit)) r ⌝ }
@@ -248,13 +252,10 @@ fn visit(
     let mut next = first;
     loop {
         let check = check_gate(images, kind, p, next < count, wanted, waiter);
-        match check {
-            Check::Ends { ending } => {
-                return ending;
-            }
-            Check::GoesOn => {}
+        if check < GOES_ON {
+            return check;
         }
-        let ended = take(
+        let ending = take(
             images,
             wanteds,
             netlist,
@@ -267,23 +268,16 @@ fn visit(
             next,
             wanted,
         );
-        match ended {
-            Ending::Stopped => {
-                return Ending::Stopped;
-            }
-            Ending::Known { class } => {
-                p = joined(images, operation_of(kind), p, class);
-            }
-            Ending::Unfinished { result } => {
-                p = result;
-            }
+        if ending == STOPPED {
+            return STOPPED;
         }
+        p = carry(images, kind, p, ending);
         next += 1;
         keep(cells, s, p, next);
     }
 }
 
-// Takes pin `next` of signal s's gate: visits the gate behind it, unless its class is known.
+// Pin `next` of signal s's gate is taken, which counts at once: the gate behind it is visited, unless its class is known.
 fn take(
     images: &[u8; 4096],
     wanteds: &[u8; 4608],
@@ -296,7 +290,7 @@ fn take(
     p: u8,
     next: u8,
     wanted: u8,
-) -> Ending
+) -> u8
     requires { ⌜ Ready (now images) (now wanteds) (now netlist) (now places) (now known) inputs ⌝ }
     requires { ⌜ (8 ≤ getD (now known) s 0) × (s < length (now cells)) × (next < countFrom (now netlist) s) ⌝ }
     ensures { λ r. ⌜ Takes (now (netlist .entry)) (now (known .entry)) s p next wanted (now (cells .entry)) (now (cells .exit)) r ⌝ }
@@ -308,7 +302,7 @@ fn take(
     keep(cells, s, p, next + 1);
     let driver = driver_at(images, netlist, places, known, cells, inputs, x);
     match driver {
-        Driver::Told { class } => Ending::Known { class: class },
+        Driver::Told { class } => class,
         Driver::Behind {
             p: from,
             next: first,
@@ -329,34 +323,41 @@ fn take(
     }
 }
 
-// The number of gates visited and of pins taken.
+// Gates visited and pins taken, of one cell and of all.
 struct Counts {
     gates: usize,
     pins: usize,
 }
 
-fn visited_in(cell: u8) -> usize
+fn visited_in(cell: u8) -> u16
     ensures { λ r. ⌜ r ≡ visitedOf cell ⌝ }
 {
     if cell < 128 { 0 } else { 1 }
 }
 
-fn taken_in(cell: u8) -> usize
+fn taken_in(cell: u8) -> u16
     ensures { λ r. ⌜ r ≡ nextOf cell ⌝ }
 {
     if cell < 128 {
         0
     } else {
-        (cell / 8 - 16) as usize
+        (cell / 8 - 16) as u16
     }
 }
 
+fn wide(x: u16) -> usize
+    ensures { λ r. ⌜ r ≡ x ⌝ }
+{
+    x as usize
+}
+
+// The sums have 16 bits, which are added up many at a time.
 fn count(cells: &[u8]) -> Counts
-    requires { ⌜ length (now cells) < 2 ^ 32 ⌝ }
+    requires { ⌜ length (now cells) ≤ 4096 ⌝ }
     ensures { λ r. ⌜ (r .gates ≡ total visitedOf (now (cells .entry))) × (r .pins ≡ total nextOf (now (cells .entry))) ⌝ }
 {
-    let mut gates: usize = 0;
-    let mut pins: usize = 0;
+    let mut gates: u16 = 0;
+    let mut pins: u16 = 0;
     let mut i: usize = 0;
     while i < cells.len() {
         gates += visited_in(cells[i]);
@@ -364,8 +365,8 @@ fn count(cells: &[u8]) -> Counts
         i += 1;
     }
     Counts {
-        gates: gates,
-        pins: pins,
+        gates: wide(gates),
+        pins: wide(pins),
     }
 }
 
@@ -398,17 +399,17 @@ fn judge(wanted: u8, class: u8) -> Verdict
     }
 }
 
-fn verdict_of(ending: Ending) -> Verdict
+fn verdict_of(ending: u8) -> Verdict
     ensures { λ r. ⌜ r ≡ verdictFrom ending ⌝ }
 {
-    match ending {
-        Ending::Stopped => Verdict::Hazardous,
-        Ending::Known { class } => Verdict::Clean { class: class },
-        Ending::Unfinished { result: _ } => Verdict::Hazardous,
+    if ending < UNFINISHED {
+        Verdict::Clean { class: ending }
+    } else {
+        Verdict::Hazardous
     }
 }
 
-// The search of signal s with a wanted set. Each call starts afresh: what the cells hold is of no use, before and after.
+// The search of signal s. Each call starts afresh: the cells are lent room, whatever they hold.
 pub fn find(
     images: &[u8; 4096],
     wanteds: &[u8; 4608],
@@ -447,7 +448,7 @@ pub fn find(
         from,
         0,
         wanted,
-        16,
+        NOBODY,
     );
     let counts = count(reached);
     Found {

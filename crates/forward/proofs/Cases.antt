@@ -28,7 +28,9 @@ unfolding forwardAnswer forwardBuffer judged touchedIn outputSearch forwardBytes
     ofCode setOf has meets image possible wantedFor join joinAll rule.andAll rule.orAll rule.each rule.some rule.gateClass rule.kindOf
     sources sourcesOf inputClassAt bitAt wordAt longAt wordsAt marked outside tieOf tieFrom
     list.listChecked list.against list.afterNetlist list.sparesFrom list.spareAt list.spareBits list.refuse
-    netlist.checked netlist.checkedWithin netlist.bodyWithin netlist.body netlist.accepted netlist.outputs netlist.counts netlist.opening netlist.recordsFrom netlist.recordAt netlist.mostPins netlist.leastPins netlist.noKind netlist.wordsBelow netlist.refuse netlist.pinsBelow netlist.placeOf netlist.cardOf
+    netlist.checked netlist.checkedWithin netlist.bodyWithin netlist.body netlist.accepted netlist.outputs netlist.counts netlist.opening
+    netlist.recordsFrom netlist.recordAt netlist.mostPins netlist.leastPins netlist.noKind netlist.wordsBelow
+    netlist.refuse netlist.pinsBelow netlist.placeOf netlist.cardOf
 called n l = (forwardAnswer n l 0 (7 ∷ 9 ∷ []), forwardBuffer n l 0 (7 ∷ 9 ∷ []))
 
 mux-called : called muxNetlist muxList ≡ (Done 2 4, 1 ∷ 9 ∷ [])

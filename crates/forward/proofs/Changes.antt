@@ -84,7 +84,7 @@ module _ {i g o p e c w : ℕ} (n l : List ℕ) (accepted : listChecked n l ≡ 
   abbrev filled : List ℕ
   filled = codes n l t ++ drop (i + g) (replicate 2304 0)
 
-  pub f : Formed n i g o p e
+  f : Formed n i g o p e
   f = formed n (listed n l accepted .netlist-accepted)
 
   signals-are : inputsOf n + gatesOf n ≡ i + g
@@ -117,7 +117,9 @@ module _ {i g o p e c w : ℕ} (n l : List ℕ) (accepted : listChecked n l ≡ 
   pub touched-is : touchedBy n filled g ≡ touchedIn n l t
   unfolding touchedBy anyConstant touchedIn touched cardOf
   touched-is =
-      sum-ext _ _ g (λ h below. ap bit (some-ext _ _ (gatePins n h) (each-map (λ x (less : x < inputsOf n + h). known x (omega (arith, f .inputs-are))) (gatePins n h) (f .well-formed h (omega (arith, f .gates-are))))))
+      sum-ext _ _ g (λ h below.
+      ap bit (some-ext _ _ (gatePins n h)
+      (each-map (λ x (less : x < inputsOf n + h). known x (omega (arith, f .inputs-are))) (gatePins n h) (f .well-formed h (omega (arith, f .gates-are))))))
       ∙ ap (sumBelow _) (f .gates-are)
     where
       known : (x : ℕ) → x < i + g → isConstantCode (getD filled x 0) ≡ isKnown (constantsIn n l t x)
@@ -132,7 +134,8 @@ module _ {i g o p e c w : ℕ} (n l : List ℕ) (accepted : listChecked n l ≡ 
 
   class-given : (s : ℕ) (k : Class) → sourcesOf n l t s ≡ given k → classIn n l t s ≡ k
   class-given s k d =
-      class-value n l t s ∙ value-law gateClass c0 (sourcesOf n l t) (falling n l accepted t) s ∙ ap (λ c. outOf gateClass c (value gateClass c0 (sourcesOf n l t))) d
+      class-value n l t s ∙ value-law gateClass c0 (sourcesOf n l t) (falling n l accepted t) s
+      ∙ ap (λ c. outOf gateClass c (value gateClass c0 (sourcesOf n l t))) d
 
   inputs-fit : i ≤ length filled
   inputs-fit = omega (arith, length-append (codes n l t) (drop (i + g) (replicate 2304 0)), codes-length)
@@ -159,7 +162,8 @@ module _ {i g o p e c w : ℕ} (n l : List ℕ) (accepted : listChecked n l ≡ 
     where
       input : (s : ℕ) → s < inputsOf n → (k : Class) → sourcesOf n l t s ≡ given k → sourceFrom n marked s ≡ src s
       input s h k d =
-          ap (λ b. read b (gate (kindFrom n s) (pinsFrom n s))) (marked-input s (omega (arith, f .inputs-are)) ∙ ap code (class-given s k d)) ∙ read-given k (gate (kindFrom n s) (pinsFrom n s))
+          ap (λ b. read b (gate (kindFrom n s) (pinsFrom n s))) (marked-input s (omega (arith, f .inputs-are)) ∙ ap code (class-given s k d))
+          ∙ read-given k (gate (kindFrom n s) (pinsFrom n s))
           ∙ sym (known-given (sourcesOf n l t) (inputsOf n + gatesOf n) s k d)
 
       driven : (h : ℕ) → h < gatesOf n → sourcesOf n l t (inputsOf n + h) ≡ gate (gateKind n h) (gatePins n h)

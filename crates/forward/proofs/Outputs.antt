@@ -67,7 +67,8 @@ module _ (netlist known : List ℕ) (entries o s : ℕ) (at : s ≡ wordAt netli
   unfolding sumBelow
   found-next visited e = rw (e, add-one o, found-is) (add-comm _ _)
 
-  pub found-byte : (old now : List ℕ) → now ≡ written old 0 (byteFrom netlist known entries) o → o < length old → (byte : ℕ) → byte ≡ byteOf (found .verdict)
+  pub found-byte : (old now : List ℕ) → now ≡ written old 0 (byteFrom netlist known entries) o → o < length old
+      → (byte : ℕ) → byte ≡ byteOf (found .verdict)
       → set now o byte ≡ written old 0 (byteFrom netlist known entries) (o + 1)
   found-byte old now e h byte b =
       ap₂ (λ now byte. set now o byte) e (b ∙ ap (λ f. byteOf (f .verdict)) found-is ∙ byte-code ((searchFrom netlist known entries o) .verdict))

@@ -39,15 +39,19 @@ pub record Searchable (images wanteds netlist places known : List ℕ) (inputs o
   pub output-below : (o : ℕ) → o < outputs → wordAt netlist (entries + 2 * o) < length known
   pub enough : outputs ≤ room
 
--- what the forward method needs for a change: the tables, an accepted list, the places of the records, and room for the outputs' bytes
-pub record Judgeable (table images wanteds netlist list places : List ℕ) (inputs gates outputs entries width change room : ℕ) : Type 0 where
-  pub table-is : table ≡ gateTable
-  pub images-are : images ≡ imageTable
-  pub wanteds-are : wanteds ≡ wantedTable
+-- a change of an accepted list, and room for the outputs' bytes
+pub record ChangeOf (netlist list : List ℕ) (inputs gates outputs entries width change room : ℕ) : Type 0 where
   pub pins : ℕ
   pub changes : ℕ
   pub accepted : listChecked netlist list ≡ Accepted inputs gates outputs pins entries changes width
   pub early : change < changes
+  pub enough : outputs ≤ room
+
+-- and, for many changes of one card, the tables and the places of the records
+pub record Judgeable (table images wanteds netlist list places : List ℕ) (inputs gates outputs entries width change room : ℕ) : Type 0 where
+  pub table-is : table ≡ gateTable
+  pub images-are : images ≡ imageTable
+  pub wanteds-are : wanteds ≡ wantedTable
   pub rest : List ℕ
   pub places-are : places ≡ placesOf netlist gates ++ rest
-  pub enough : outputs ≤ room
+  pub of : ChangeOf netlist list inputs gates outputs entries width change room

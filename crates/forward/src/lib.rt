@@ -8,7 +8,7 @@ ghost use Rattle.netlist.specs.Words.{wordsAt};
 ghost use Rattle.simulate.specs.Pass.{Spreads};
 ghost use Rattle.changes.specs.Changes.{written};
 ghost use Rattle.forward.specs.Known.{anyConstant, touchedBy, knownOr8, knownCodes};
-ghost use Rattle.forward.specs.Outputs.{byteOf, byteFrom, visitedFrom, Searchable, Judgeable};
+ghost use Rattle.forward.specs.Outputs.{byteOf, byteFrom, visitedFrom, Searchable, ChangeOf, Judgeable};
 ghost use Rattle.forward.specs.Forward.{touchedIn, forwardBytes, visitedIn, forwardAnswer, forwardBuffer};
 use changes::Listed;
 use core::Verdict;
@@ -162,6 +162,43 @@ pub fn judge(
     Counts { touched, visited }
 }
 
+// The same for one change alone.
+fn judge_alone(
+    netlist: &[u8],
+    list: &[u8],
+    inputs: usize,
+    gates: usize,
+    outputs: usize,
+    entries: usize,
+    width: usize,
+    change: usize,
+    buffer: &mut [u8],
+) -> Counts
+    requires { ⌜ ChangeOf (now netlist) (now list) inputs gates outputs entries width change (length (now buffer)) ⌝ }
+    ensures { λ r. ⌜ (r .touched ≡ touchedIn (now (netlist .entry)) (now (list .entry)) change) × (r .visited ≡ visitedIn (now (netlist .entry)) (now (list .entry)) change) × (now (buffer .exit) ≡ forwardBytes (now (netlist .entry)) (now (list .entry)) change ++ drop outputs (now (buffer .entry))) ⌝ }
+{
+    let table = kung::gate_table();
+    let images = kung::images();
+    let wanteds = kung::wanted_table();
+    let mut places: [u16; 2048] = [0; 2048];
+    netlist::fill_places(netlist, &mut places, gates);
+    judge(
+        &table,
+        &images,
+        &wanteds,
+        netlist,
+        list,
+        &places,
+        inputs,
+        gates,
+        outputs,
+        entries,
+        width,
+        change,
+        buffer,
+    )
+}
+
 // The answer of the forward method: the touched count and the gates visited, or a refusal of document 01.
 pub enum Forwarded {
     Done { touched: usize, visited: usize },
@@ -190,18 +227,9 @@ pub fn forward(netlist: &[u8], list: &[u8], change: usize, buffer: &mut [u8]) ->
             if buffer.len() < outputs {
                 return Forwarded::Refused(20, 0);
             }
-            let table = kung::gate_table();
-            let images = kung::images();
-            let wanteds = kung::wanted_table();
-            let mut places: [u16; 2048] = [0; 2048];
-            netlist::fill_places(netlist, &mut places, gates);
-            let counts = judge(
-                &table,
-                &images,
-                &wanteds,
+            let counts = judge_alone(
                 netlist,
                 list,
-                &places,
                 inputs,
                 gates,
                 outputs,

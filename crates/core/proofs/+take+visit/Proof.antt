@@ -1,29 +1,26 @@
-use borrow.Author.Needs.{needs}
+-- The proof of the cycle of calls {take, visit}. A visit takes pins of its own gate, and a taken pin visits a gate below: the measure is the signal
+-- number, with the pins left as second part. The invariant of the visit's loop: what is left of the visit is the whole visit. Assumes nothing.
 use Prim.Native.Nat.{ℕ, _+_, _*_, _-_, _≤_, _<_}
 use native.Mathlib.Omega.{arith}
 use mathlib.Core.Path.{_≡_, refl, sym, _∙_, ap, ap₂, subst}
-use lib.ListN.{length, getD}
 use mathlib.Core.List.{List}
-use mathlib.Core.Logic.{⊎-elim}
 use lib.Dec.{ltb}
+use lib.ListN.{length, getD}
+use borrow.Author.Needs.{needs}
 use borrow.Author.Tests.{ltb-true}
+use borrow.Fn.Kinds.{In}
+use borrow.Fn.PlainCycle.{Measures, is, falls, and}
 use Rattle.kung.specs.Class.{code, ofCode}
 use Rattle.kung.specs.Rule.{kindOf}
-use Rattle.kung.specs.Operation.{opAt, opOf, inverts, join}
+use Rattle.kung.specs.Operation.{opOf, inverts}
 use Rattle.kung.specs.Sets.{possible, wantedFor}
 use Rattle.netlist.specs.Netlist.{kindAt, countAt, pinAt}
 use Rattle.search.specs.Search.{waits, checks}
-use Rattle.core.specs.declared.Ending.{Ending}
-use Rattle.core.specs.declared.Ending.the-variants.{Known}
-use Rattle.core.specs.declared.Check.the-variants.{GoesOn}
 use Rattle.core.specs.declared.Driver.the-variants.{Told, Behind}
 use Rattle.core.specs.Source.{placeFrom, kindFrom, countFrom, pinsFrom}
-use Rattle.core.specs.Found.{waitingOf, checkOf, Takes, Visits}
-use Rattle.core.proofs.Codes.{op-code}
+use Rattle.core.specs.Found.{waitingOf, checkOf, carriedFrom, Takes, Visits}
 use Rattle.core.proofs.Sources.{GateOf, gate-of, pin-is, pin-below, searched-there}
-use Rattle.core.proofs.Visits.{Rest, takes-told, takes-behind, behind-searched, rest-first, rest-ends, rest-next, rest-stopped, Goes, goes-left, goes-known, goes-unfinished}
-use borrow.Fn.Kinds.{In}
-use borrow.Fn.PlainCycle.{Measures, is, falls, and}
+use Rattle.core.proofs.Visits.{Rest, takes-told, takes-behind, behind-searched, rest-first, rest-ends, rest-next, rest-stopped, goes-left, takes-small}
 use Rattle.core.proofs.take.Reads as take
 use Rattle.core.proofs.take.Kinds as take-kinds
 use Rattle.core.proofs.+take+visit.Lts-take as take-lts
@@ -33,11 +30,10 @@ use Rattle.core.proofs.+take+visit.Lts-visit as visit-lts
 use Rattle.core.proofs.check_gate.Reads as check-gate-reads
 use Rattle.core.proofs.driver_at.Reads as driver-at-reads
 use Rattle.core.proofs.keep.Reads as keep-reads
-use Rattle.core.proofs.operation_of.Reads as operation-of-reads
+use Rattle.core.proofs.carry.Reads as carry-reads
 use Rattle.core.proofs.place_of.Reads as place-of-reads
 use Rattle.core.proofs.waiter_of.Reads as waiter-of-reads
 use Rattle.core.proofs.wanted_behind.Reads as wanted-behind-reads
-use Rattle.kung.proofs.joined.Reads as joined-reads
 use Rattle.netlist.proofs.count_at.Reads as count-at-reads
 use Rattle.netlist.proofs.kind_at.Reads as kind-at-reads
 use Rattle.netlist.proofs.pin_at.Reads as pin-at-reads
@@ -96,10 +92,8 @@ visit-calls t = (
   check-gate-reads.Learnt,
   take-below t,
   take.Post,
-  operation-of-reads.Asked,
-  operation-of-reads.Learnt,
-  joined-reads.Asked,
-  joined-reads.Learnt,
+  carry-reads.Asked,
+  carry-reads.Learnt,
 )
 
 -- the gate whose pin is taken
@@ -185,6 +179,7 @@ take-enum-known-driver t c = search needs
 take-enum-known-driver-2 : (t : ℕ) → take-lts.Need-enum-known-driver-2 (take-calls t) (take-at t) take.Post
 take-enum-known-driver-2 t c = search needs
 
+-- what was found behind the pin
 module _ (t : ℕ) (c : take-lts.After-driver-at (take-calls t) (take-at t) take.Post) where
   abbrev pin : take-lts.After-pin-at (take-calls t) (take-at t) take.Post
   pin = c .before .before .before .before .before .before
@@ -211,14 +206,14 @@ module _ (t : ℕ) (c : take-lts.After-driver-at (take-calls t) (take-at t) take
 
   take-told : (k : ℕ) → c .driver-at .result ≡ Told k
       → Takes (begun .args .netlist .now) (begun .args .known .now) (begun .args .s) (begun .args .p) (begun .args .next) (begun .args .wanted)
-      (begun .args .cells .now) cells (Known k)
+      (begun .args .cells .now) cells k
   take-told k e =
       let a = begun .args in
       takes-told (a .netlist .now) (a .known .now) (a .s) (a .p) (a .next) (a .wanted) (a .cells .now) (pin .pin-at .result)
       (pin .before .wanted-behind .result) (pin .before .before .waiter-of .result) cells (take-on t pin) take-wants take-waits
       (c .before .before .before .before .keep .ensures) k (sym e ∙ c .driver-at .ensures)
 
-  take-behind : (from first : ℕ) → c .driver-at .result ≡ Behind from first → (exit : List ℕ) (r : Ending)
+  take-behind : (from first : ℕ) → c .driver-at .result ≡ Behind from first → (exit : List ℕ) (r : ℕ)
       → Visits (begun .args .netlist .now) (begun .args .known .now) (pin .pin-at .result) from first (pin .before .wanted-behind .result)
       (pin .before .before .waiter-of .result) cells exit r
       → Takes (begun .args .netlist .now) (begun .args .known .now) (begun .args .s) (begun .args .p) (begun .args .next) (begun .args .wanted)
@@ -290,6 +285,7 @@ visit-loop-holds t c =
     let a = s .args in
     (omega (arith, k .keep .kept .0, s .pre .1 .1 .1), refl, rest-first (a .netlist .now) (a .known .now) (a .s) (a .wanted) (a .waiter) (a .from) (a .first) (k .keep .last .0))
 
+-- in the loop, after the checks
 module _ (t : ℕ) (c : visit-lts.After-check-gate (visit-calls t) (visit-at t) visit.Post visit-Inv-loop visit-μ-loop) where
   abbrev kept-at : visit-lts.After-keep (visit-calls t) (visit-at t) visit.Post visit-Inv-loop visit-μ-loop
   kept-at = c .before .before .before .before
@@ -323,12 +319,12 @@ module _ (t : ℕ) (c : visit-lts.After-check-gate (visit-calls t) (visit-at t) 
       (waitingOf (entered .args .waiter)))) kind-is count-is
 
   -- a pin is left where the checks go on
-  pin-left : c .check-gate .result ≡ GoesOn → c .before .loop .next < countFrom (entered .args .netlist .now) (entered .args .s)
+  pin-left : 17 ≤ c .check-gate .result → c .before .loop .next < countFrom (entered .args .netlist .now) (entered .args .s)
   pin-left e =
       ltb-true _ _
       (goes-left (kindFrom (entered .args .netlist .now) (entered .args .s)) (ofCode (c .before .loop .p))
       (ltb (c .before .loop .next) (countFrom (entered .args .netlist .now) (entered .args .s))) (entered .args .wanted)
-      (waitingOf (entered .args .waiter)) (sym e ∙ checked))
+      (waitingOf (entered .args .waiter)) (rw checked at e))
 
   few : countFrom (entered .args .netlist .now) (entered .args .s) ≤ 8
   few = entered .pre .1 .0 .few-pins _ (visit-gate t entered .gate)
@@ -336,112 +332,83 @@ module _ (t : ℕ) (c : visit-lts.After-check-gate (visit-calls t) (visit-at t) 
 visit-check-gate-requires : (t : ℕ) → visit-lts.Need-check-gate-requires (visit-calls t) (visit-at t) visit.Post visit-Inv-loop visit-μ-loop
 visit-check-gate-requires t c κs = search needs
 
-visit-enum-known-check : (t : ℕ) → visit-lts.Need-enum-known-check (visit-calls t) (visit-at t) visit.Post visit-Inv-loop visit-μ-loop
-visit-enum-known-check t c = search needs
-
 visit-same-length : (t : ℕ) → visit-lts.Need-same-length (visit-calls t) (visit-at t) visit.Post visit-Inv-loop visit-μ-loop
 visit-same-length t c = search needs
 
 visit-returns : (t : ℕ) → visit-lts.Need-returns (visit-calls t) (visit-at t) visit.Post visit-Inv-loop visit-μ-loop
 visit-returns t c =
-    let g = c .before .before .before in
+    let g = c .before in
     let s = entered t g in
     let a = s .args in
     let l = g .before .loop in
     rest-ends (a .netlist .now) (a .known .now) (a .s) (a .wanted) (a .waiter) (a .from) (a .first) (kept-at t g .keep .last .0) (l .p) (l .next) (l .cells)
-    (l .inv .2) (a .cells .now) (s .pre .1 .1 .0) (kept-at t g .keep .ensures) _ (sym (c .before .check .given .1) ∙ checked t g)
-
-visit-enum-told : (t : ℕ) → visit-lts.Need-enum-told (visit-calls t) (visit-at t) visit.Post visit-Inv-loop visit-μ-loop
-visit-enum-told t c = search needs
+    (l .inv .2) (a .cells .now) (s .pre .1 .1 .0) (kept-at t g .keep .ensures) (g .check-gate .result) (checked t g) (c .if1 .taken)
 
 visit-take-requires : (t : ℕ) → visit-lts.Need-take-requires (visit-calls t) (visit-at t) visit.Post visit-Inv-loop visit-μ-loop
 visit-take-requires t c κs =
-    let g = c .before .before .before in
+    let g = c .before .before in
     let s = entered t g in
-    let less = pin-left t g (c .before .enum-told .given .1) in
+    let less = pin-left t g (c .before .if1 .left) in
     (omega (arith, s .pre .0, few t g), (s .pre .1 .0, (s .pre .1 .1 .0, g .before .loop .inv .0, less)))
 
 -- after a pin was taken
 module _ (t : ℕ) (c : visit-lts.After-take (visit-calls t) (visit-at t) visit.Post visit-Inv-loop visit-μ-loop) where
   abbrev checking : visit-lts.After-check-gate (visit-calls t) (visit-at t) visit.Post visit-Inv-loop visit-μ-loop
-  checking = c .before .before .before .before
+  checking = c .before .before .before
 
-  on : c .before .before .before .before .check-gate .result ≡ GoesOn
-  on = c .before .before .enum-told .given .1
-
-visit-enum-told-2 : (t : ℕ) → visit-lts.Need-enum-told-2 (visit-calls t) (visit-at t) visit.Post visit-Inv-loop visit-μ-loop
-visit-enum-told-2 t c = search needs
+  left-on : c .before .before .before .before .loop .next < countFrom (entered t checking .args .netlist .now) (entered t checking .args .s)
+  left-on = pin-left t checking (c .before .before .if1 .left)
 
 visit-same-length-2 : (t : ℕ) → visit-lts.Need-same-length-2 (visit-calls t) (visit-at t) visit.Post visit-Inv-loop visit-μ-loop
 visit-same-length-2 t c = search needs
 
 visit-returns-2 : (t : ℕ) → visit-lts.Need-returns-2 (visit-calls t) (visit-at t) visit.Post visit-Inv-loop visit-μ-loop
 visit-returns-2 t c =
-    let k = c .before .before .before .before in
+    let k = c .before .before .before in
     let g = checking t k in
     let s = entered t g in
     let a = s .args in
     let l = g .before .loop in
     rest-stopped (a .netlist .now) (a .known .now) (a .s) (a .wanted) (a .waiter) (a .from) (a .first) (kept-at t g .keep .last .0) (l .p) (l .next) (l .cells)
-    (l .inv .2) (sym (on t k) ∙ checked t g) (pin-left t g (on t k)) (k .take .last .1 .1 .1 .1 .1 .0)
-    (subst (Takes (a .netlist .now) (a .known .now) (a .s) (l .p) (l .next) (a .wanted) (l .cells) (k .take .last .1 .1 .1 .1 .1 .0)) (c .enum-told2 .given .1) (k .take .ensures))
-    (a .cells .now) (s .pre .1 .1 .0) (kept-at t g .keep .ensures)
+    (l .inv .2) (rw (checked t g) at (k .before .before .if1 .left)) (left-on t k) (k .take .result) (k .take .last .1 .1 .1 .1 .1 .0) (k .take .ensures)
+    (c .if2 .taken) (a .cells .now) (s .pre .1 .1 .0) (kept-at t g .keep .ensures)
 
-visit-enum-known-ended : (t : ℕ) → visit-lts.Need-enum-known-ended (visit-calls t) (visit-at t) visit.Post visit-Inv-loop visit-μ-loop
-visit-enum-known-ended t c = search needs
-
-visit-operation-of-requires : (t : ℕ) → visit-lts.Need-operation-of-requires (visit-calls t) (visit-at t) visit.Post visit-Inv-loop visit-μ-loop
-visit-operation-of-requires t c κs = search needs
-
-visit-joined-requires : (t : ℕ) → visit-lts.Need-joined-requires (visit-calls t) (visit-at t) visit.Post visit-Inv-loop visit-μ-loop
-visit-joined-requires t c κs =
-    entered t (checking t (c .before .before .before .before .before .before)) .pre .1 .0 .images-are
-
-visit-enum-known-ended-2 : (t : ℕ) → visit-lts.Need-enum-known-ended-2 (visit-calls t) (visit-at t) visit.Post visit-Inv-loop visit-μ-loop
-visit-enum-known-ended-2 t c = search needs
-
-visit-goes : (t : ℕ) (c : visit-lts.At-match2-came (visit-calls t) (visit-at t) visit.Post visit-Inv-loop visit-μ-loop) → let k = c .before .before .before in
-    let a = entered t (checking t k) .args in
-    Goes (k .take .result) (kindFrom (a .netlist .now) (a .s)) (checking t k .before .loop .p) (c .match2 .p)
-visit-goes t c =
+ended-small : (t : ℕ) (c : visit-lts.Else2 (visit-calls t) (visit-at t) visit.Post visit-Inv-loop visit-μ-loop) → c .before .before .before .take .result < 16
+ended-small t c =
     let k = c .before .before .before in
     let g = checking t k in
     let a = entered t g .args in
-    let d = kindFrom (a .netlist .now) (a .s) in
-    let p = g .before .loop .p in
-    ⊎-elim
-    (λ w.
-    subst (λ r. Goes r d p (c .match2 .p)) (sym (w .1 .given .1))
-    (goes-known d p (c .match2 .p) (w .1 .given .0 .0)
-    (w .5 ∙ w .4 .ensures
-    ∙ ap (λ o. code (join o (ofCode p) (ofCode (w .1 .given .0 .0))))
-    (ap opAt (w .3 .ensures) ∙ op-code _ ∙ ap (λ k. opOf (kindOf k)) (kind-is t g)))))
-    (λ w. subst (λ r. Goes r d p (c .match2 .p)) (sym (w .1 .given .1)) (goes-unfinished d p (c .match2 .p) (w .1 .given .0 .0) (w .3)))
-    (c .match2 .came)
+    let l = g .before .loop in
+    omega (
+      arith,
+      c .if2 .left,
+      takes-small (a .netlist .now) (a .known .now) (a .s) (l .p) (l .next) (a .wanted) (l .cells) (k .take .last .1 .1 .1 .1 .1 .0) (k .take .result) (k .take .ensures),
+    )
+
+visit-carry-requires : (t : ℕ) → visit-lts.Need-carry-requires (visit-calls t) (visit-at t) visit.Post visit-Inv-loop visit-μ-loop
+visit-carry-requires t c κs = (entered t (checking t (c .before .before .before)) .pre .1 .0 .images-are, ended-small t c)
 
 visit-add-next : (t : ℕ) → visit-lts.Need-add-next (visit-calls t) (visit-at t) visit.Post visit-Inv-loop visit-μ-loop
 visit-add-next t c =
-    let k = c .before .before .before in
-    let g = checking t k in
-    omega (arith, pin-left t g (on t k), few t g)
+    let k = c .before .before .before .before in
+    omega (arith, left-on t k, few t (checking t k))
 
 visit-keep-requires-2 : (t : ℕ) → visit-lts.Need-keep-requires-2 (visit-calls t) (visit-at t) visit.Post visit-Inv-loop visit-μ-loop
 visit-keep-requires-2 t c κs =
-    let k = c .before .before .before .before in
+    let k = c .before .before .before .before .before in
     let g = checking t k in
-    (omega (arith, g .before .loop .inv .0, k .take .kept .1 .1 .1 .1 .1 .0), omega (arith, pin-left t g (on t k), few t g))
+    (omega (arith, g .before .loop .inv .0, k .take .kept .1 .1 .1 .1 .1 .0), omega (arith, left-on t k, few t g))
 
 visit-loop-less : (t : ℕ) → visit-lts.Need-loop-less (visit-calls t) (visit-at t) visit.Post visit-Inv-loop visit-μ-loop
 visit-loop-less t c =
-    let k = c .before .before .before .before .before .before .before in
-    let g = checking t k in
-    omega (arith, pin-left t g (on t k), count-is t g)
+    let k = c .before .before .before .before .before .before .before .before in
+    omega (arith, left-on t k, count-is t (checking t k))
 
 visit-loop-again : (t : ℕ) → visit-lts.Need-loop-again (visit-calls t) (visit-at t) visit.Post visit-Inv-loop visit-μ-loop
 visit-loop-again t c =
     let e = c .before .before in
-    let m = e .before .before in
-    let k = m .before .before .before in
+    let y = e .before .before in
+    let k = y .before .before .before .before in
     let g = checking t k in
     let s = entered t g in
     let a = s .args in
@@ -449,11 +416,12 @@ visit-loop-again t c =
     let same : length (e .keep2 .last .0) ≡ length (l .cells) = e .keep2 .kept .0 ∙ k .take .kept .1 .1 .1 .1 .1 .0 in (
       omega (arith, same, l .inv .0),
       same ∙ l .inv .1,
-      subst (Rest (a .netlist .now) (a .known .now) (a .s) (a .wanted) (a .waiter) (a .from) (a .first) (kept-at t g .keep .last .0) (m .match2 .p) (l .next + 1))
+      subst (Rest (a .netlist .now) (a .known .now) (a .s) (a .wanted) (a .waiter) (a .from) (a .first) (kept-at t g .keep .last .0) (y .carry .result) (l .next + 1))
           (sym (e .keep2 .ensures))
           (rest-next (a .netlist .now) (a .known .now) (a .s) (a .wanted) (a .waiter) (a .from) (a .first) (kept-at t g .keep .last .0) (l .p) (l .next) (l .cells)
-          (l .inv .2) (sym (on t k) ∙ checked t g) (pin-left t g (on t k)) (k .take .result) (k .take .last .1 .1 .1 .1 .1 .0) (k .take .ensures) (m .match2 .p)
-          (visit-goes t m)),
+          (l .inv .2) (rw (checked t g) at (k .before .before .if1 .left)) (left-on t k) (k .take .result) (k .take .last .1 .1 .1 .1 .1 .0) (k .take .ensures)
+          (ended-small t (y .before)) (y .carry .result)
+          (y .carry .ensures ∙ ap (λ d. code (carriedFrom (k .take .result) (opOf (kindOf d)) (ofCode (l .p)))) (kind-is t g))),
     )
 
 pub +take+visit-spec : {M : Type 1} → statement M
@@ -487,18 +455,12 @@ pub +take+visit-spec : {M : Type 1} → statement M
     (visit-keep-requires t)
     (visit-loop-holds t)
     (visit-check-gate-requires t)
-    (visit-enum-known-check t)
     (visit-same-length t)
     (visit-returns t)
-    (visit-enum-told t)
     (visit-take-requires t)
-    (visit-enum-told-2 t)
     (visit-same-length-2 t)
     (visit-returns-2 t)
-    (visit-enum-known-ended t)
-    (visit-operation-of-requires t)
-    (visit-joined-requires t)
-    (visit-enum-known-ended-2 t)
+    (visit-carry-requires t)
     (visit-add-next t)
     (visit-keep-requires-2 t)
     (visit-loop-less t)

@@ -1,15 +1,13 @@
 -- `core::check_gate` meets its contract. Assumes nothing.
 use mathlib.Core.Path.{_≡_, _∙_, ap}
+use Prim.Native.Nat.{_+_}
 use native.Mathlib.Omega.{arith}
 use borrow.Author.Needs.{needs}
 use Rattle.kung.specs.Class.{ofCode}
 use Rattle.kung.specs.Rule.{kindOf}
 use Rattle.kung.specs.Operation.{opOf, inverts}
 use Rattle.kung.specs.Sets.{possible}
-use Rattle.search.specs.Search.{checks, only, sameResult}
-use Rattle.core.specs.declared.Check.{Check}
-use Rattle.core.specs.declared.Check.the-variants.{Ends}
-use Rattle.core.specs.declared.Ending.the-variants.{Known, Unfinished}
+use Rattle.search.specs.Search.{checks, only}
 use Rattle.core.specs.Found.{waitingOf, codeOr, checkOf}
 use Rattle.core.proofs.Codes.{only-code, possible-kind}
 use Rattle.core.proofs.Checks.{check-a, check-b, check-c, check-on}
@@ -53,12 +51,15 @@ returns-2 c =
     let k = c .before .before in
     let b = k .before in
     let a = b .before .before .before .args in
-    ap (λ k. Ends (Known k)) (class-is k)
+    class-is k
     ∙ check-b (b .possible-set .result) (a .wanted) (waitingOf (a .waiter)) (omega arith) (c .before .if1 .left) (omega (arith, class-is k))
     ∙ same-checks b
 
 same-result-of-requires : tie.Need-same-result-of-requires
 same-result-of-requires c κs = search needs
+
+add-result : tie.Need-add-result
+add-result c = search needs
 
 returns-3 : tie.Need-returns-3
 returns-3 c =
@@ -66,7 +67,7 @@ returns-3 c =
     let k = e .before in
     let b = k .before in
     let a = b .before .before .before .args in
-    ap (λ k. Ends (Unfinished k)) (c .before .same-result-of .ensures)
+    ap (8 +_) (c .before .same-result-of .ensures)
     ∙ check-c (b .possible-set .result) (a .wanted) (waitingOf (a .waiter)) (omega arith) (e .if1 .left) (omega (arith, class-is k)) (omega arith)
     ∙ same-checks b
 
@@ -90,5 +91,6 @@ check-gate-spec =
     returns
     returns-2
     same-result-of-requires
+    add-result
     returns-3
     returns-4)

@@ -62,12 +62,21 @@ loop-again c =
       omega (arith, total-next nextOf cells (l .i) less, c .taken-in .ensures, l .inv),
     )
 
+wide-requires : tie.Need-wide-requires Inv-loop μ-loop
+wide-requires c κs = search needs
+
+wide-requires-2 : tie.Need-wide-requires-2 Inv-loop μ-loop
+wide-requires-2 c κs = search needs
+
 returns : tie.Need-returns Inv-loop μ-loop
 returns c =
-    let l = c .before .loop in
-    let cells = c .before .before .before .args .cells .now in
-    let all : l .i ≡ length cells = omega arith in
-    (omega (arith, total-end visitedOf cells (l .i) all, l .inv), omega (arith, total-end nextOf cells (l .i) all, l .inv))
+    let e = c .before .before in
+    let l = e .before .loop in
+    let cells = e .before .before .before .args .cells .now in
+    let all : l .i ≡ length cells = omega (arith, e .loop-test .left, l .inv) in (
+      omega (arith, c .before .wide .ensures, total-end visitedOf cells (l .i) all, l .inv),
+      omega (arith, c .wide2 .ensures, total-end nextOf cells (l .i) all, l .inv),
+    )
 
 pub count-spec : {M : Type 1} → statement M
 count-spec =
@@ -85,4 +94,6 @@ count-spec =
     add-i
     loop-less
     loop-again
+    wide-requires
+    wide-requires-2
     returns)

@@ -1,19 +1,16 @@
 -- `core::find` meets its contract. Assumes nothing.
-use Prim.Native.Nat.{ℕ, suc, _+_, _<_}
+use Prim.Native.Nat.{_+_}
 use native.Mathlib.Omega.{arith}
 use native.Mathlib.Numerals.{add-one}
 use mathlib.Core.Path.{_≡_, sym, _∙_, ap}
-use mathlib.Core.List.{List}
-use lib.ListN.{length, getD, take}
+use lib.ListN.{length, take}
 use lib.Seq.{length-take-le}
 use borrow.Author.Needs.{needs}
 use Rattle.kung.specs.Class.{code}
 use Rattle.kung.specs.Rule.{kindOf}
 use Rattle.kung.specs.Operation.{opOf, unit}
-use Rattle.netlist.specs.Words.{byteAt, wordAt}
 use Rattle.netlist.specs.Netlist.{kindAt}
 use Rattle.search.specs.Search.{fresh}
-use Rattle.core.specs.Source.{placeFrom}
 use Rattle.core.proofs.Sources.{GateOf, gate-of}
 use Rattle.core.proofs.Searches.{found-given, found-visited}
 use Rattle.core.proofs.find.Statement.{statement}
@@ -73,22 +70,23 @@ visit-requires c κs =
     let s = e .before .before .before .before .before .before in
     (s .pre .0, (e .if1 .left, omega (arith, l .clear .kept .0, reached-length u), omega arith))
 
-word-small : (s : List ℕ) (at : ℕ) → ((i : ℕ) → byteAt s i < 256) → wordAt s at < 65536
-unfolding wordAt
-word-small s at bytes = omega (arith, bytes at, bytes (at + 1))
-
 count-requires : tie.Need-count-requires
 count-requires c κs =
     let v = c .before .before .before in
     let l = v .before .before .before .before in
     let u = l .before .before .before in
     let e = u .before .before .before in
-    let k = e .before .before .before .before .before in
-    let s = k .before in
-    let a = s .args in
-    let small : (at : ℕ) → wordAt (a .netlist .now) at < 65536 = λ at. word-small (a .netlist .now) at (λ i. k .shared-slice-known .given i .fits) in
-    omega
-    (arith, small 5, small 7, searched e .gate, searched e .above, s .pre .0 .indexed .inputs-are, reached-length u, l .clear .kept .0, v .visit .kept .1 .1 .1 .1 .1 .0)
+    let s = e .before .before .before .before .before .before in
+    omega (
+      arith,
+      s .pre .0 .few-signals,
+      searched e .gate,
+      searched e .above,
+      s .pre .0 .indexed .inputs-are,
+      reached-length u,
+      l .clear .kept .0,
+      v .visit .kept .1 .1 .1 .1 .1 .0,
+    )
 
 verdict-of-requires : tie.Need-verdict-of-requires
 verdict-of-requires c κs = search needs

@@ -1,5 +1,4 @@
 -- `core::keep` meets its contract. Assumes nothing.
-use mathlib.Core.Path.{sym}
 use borrow.Author.Needs.{needs}
 use Rattle.search.specs.Search.{put}
 use Rattle.core.proofs.Codes.{code-ofCode}

@@ -3,7 +3,6 @@ use mathlib.Core.Path.{_∙_, ap}
 use native.Mathlib.Omega.{arith}
 use borrow.Author.Needs.{needs}
 use borrow.Author.Tests.{lt-ltb, le-ltb}
-use Rattle.kung.specs.Sets.{only as onlyCode}
 use Rattle.search.specs.Search.{sameResult, only}
 use Rattle.core.specs.Found.{waitingOf, codeOr}
 use Rattle.core.proofs.Codes.{only-code}

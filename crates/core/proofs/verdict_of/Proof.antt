@@ -1,28 +1,13 @@
 -- `core::verdict_of` meets its contract. Assumes nothing.
-use mathlib.Core.Path.{sym, ap}
-use borrow.Author.Needs.{needs}
-use Rattle.core.specs.Found.{verdictFrom}
+use borrow.Author.Tests.{lt-ltb, le-ltb}
 use Rattle.core.proofs.verdict_of.Statement.{statement}
 use Rattle.core.proofs.verdict_of.Tie as tie
 
-enum-told : tie.Need-enum-told
-enum-told c = search needs
-
-enum-known-ending : tie.Need-enum-known-ending
-enum-known-ending c = search needs
-
-enum-told-2 : tie.Need-enum-told-2
-enum-told-2 c = search needs
-
 returns : tie.Need-returns
-returns c = search needs
+returns c = rw (lt-ltb (c .before .args .ending) 8 (c .if1 .taken))
 
 returns-2 : tie.Need-returns-2
-returns-2 c = ap verdictFrom (sym (c .before .ending .given .1))
-
-returns-3 : tie.Need-returns-3
-returns-3 c = search needs
+returns-2 c = rw (le-ltb (c .before .args .ending) 8 (c .if1 .left))
 
 pub verdict-of-spec : {M : Type 1} → statement M
-verdict-of-spec =
-    tie.close (tie.spec enum-told enum-known-ending enum-told-2 returns returns-2 returns-3)
+verdict-of-spec = tie.close (tie.spec returns returns-2)

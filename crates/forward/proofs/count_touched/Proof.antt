@@ -24,7 +24,9 @@ abbrev μ-loop : tie.MeasureT-loop
 μ-loop netlist inputs gates classes touched₀ at₀ gate₀ touched at gate = gates - gate
 
 -- in a turn the gate's record can be read
-readable : (c : tie.In-loop Inv-loop μ-loop) → Readable (c .before .before .before .before .args .netlist .now) (c .before .loop .at) (c .before .before .before .before .args .inputs + c .before .loop .gate)
+readable : (c : tie.In-loop Inv-loop μ-loop)
+    → Readable (c .before .before .before .before .args .netlist .now) (c .before .loop .at)
+    (c .before .before .before .before .args .inputs + c .before .loop .gate)
 readable c = rw (c .before .loop .inv .1) (c .before .before .before .before .pre .0 .readable (c .before .loop .gate) (c .loop-test .taken))
 
 loop-holds : tie.Need-loop-holds Inv-loop μ-loop

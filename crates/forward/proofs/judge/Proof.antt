@@ -20,8 +20,8 @@ classify-requires c κs =
     let s = c .before .before .before .before .before in
     let a = s .args in (
       s .pre .table-is,
-      ready (a .netlist .now) (a .list .now) (s .pre .accepted) (a .change) 2304 (s .pre .early)
-          (signals-high (a .netlist .now) (a .list .now) (s .pre .accepted) (a .change)),
+      ready (a .netlist .now) (a .list .now) (s .pre .of .accepted) (a .change) 2304 (s .pre .of .early)
+          (signals-high (a .netlist .now) (a .list .now) (s .pre .of .accepted) (a .change)),
     )
 
 slice-aggregate-count-touched : tie.Need-slice-aggregate-count-touched
@@ -31,8 +31,8 @@ count-touched-requires : tie.Need-count-touched-requires
 count-touched-requires c κs =
     let s = c .before .before .before .before .before .before .before .before in
     let a = s .args in (
-      spreads (a .netlist .now) (formed (a .netlist .now) (listed (a .netlist .now) (a .list .now) (s .pre .accepted) .netlist-accepted)),
-      filled-room (a .netlist .now) (a .list .now) (s .pre .accepted) (a .change) _ (c .before .before .classify .ensures),
+      spreads (a .netlist .now) (formed (a .netlist .now) (listed (a .netlist .now) (a .list .now) (s .pre .of .accepted) .netlist-accepted)),
+      filled-room (a .netlist .now) (a .list .now) (s .pre .of .accepted) (a .change) _ (c .before .before .classify .ensures),
     )
 
 slice-aggregate-mark-unknown : tie.Need-slice-aggregate-mark-unknown
@@ -42,7 +42,7 @@ mark-unknown-requires : tie.Need-mark-unknown-requires
 mark-unknown-requires c κs =
     let s = c .before .before .before .before .before .before .before .before .before .before in
     let a = s .args in
-    filled-room (a .netlist .now) (a .list .now) (s .pre .accepted) (a .change) _ (c .before .before .before .before .classify .ensures)
+    filled-room (a .netlist .now) (a .list .now) (s .pre .of .accepted) (a .change) _ (c .before .before .before .before .classify .ensures)
 
 slice-aggregate-search-outputs : tie.Need-slice-aggregate-search-outputs
 slice-aggregate-search-outputs c = search needs
@@ -51,9 +51,11 @@ search-outputs-requires : tie.Need-search-outputs-requires
 search-outputs-requires c κs =
     let s = c .before .before .before .before .before .before .before .before .before .before .before .before .before .before in
     let a = s .args in
-    searchable (a .netlist .now) (a .list .now) (s .pre .accepted) (a .change) _
-    (c .before .before .before .mark-unknown .ensures ∙ ap (λ codes. knownCodes codes (a .inputs) (a .gates)) (c .before .before .before .before .before .before .before .before .classify .ensures)) _ _ _ (s .pre .rest) (s .pre .images-are)
-    (s .pre .wanteds-are) (s .pre .places-are) _ (s .pre .enough)
+    searchable (a .netlist .now) (a .list .now) (s .pre .of .accepted) (a .change) _
+    (c .before .before .before .mark-unknown .ensures ∙ ap (λ codes. knownCodes codes (a .inputs) (a .gates))
+    (c .before .before .before .before .before .before .before .before .classify .ensures))
+    _ _ _ (s .pre .rest) (s .pre .images-are)
+    (s .pre .wanteds-are) (s .pre .places-are) _ (s .pre .of .enough)
 
 same-length : tie.Need-same-length
 same-length c = search needs
@@ -66,11 +68,12 @@ returns c =
     let l = a .list .now in
     let filled = c .before .before .before .before .before .before .before .before .before .before .before .classify .ensures in
     let marked = c .before .before .before .before .before .before .mark-unknown .ensures ∙ ap (λ codes. knownCodes codes (a .inputs) (a .gates)) filled in (
-      c .before .before .before .before .before .before .before .before .count-touched .ensures ∙ ap (λ codes. touchedBy n codes (a .gates)) filled ∙ touched-is n l (s .pre .accepted) (a .change),
+      c .before .before .before .before .before .before .before .before .count-touched .ensures
+          ∙ ap (λ codes. touchedBy n codes (a .gates)) filled ∙ touched-is n l (s .pre .of .accepted) (a .change),
       c .before .before .search-outputs .ensures .0 ∙ ap (λ known. visitedFrom n known (a .entries) (a .outputs)) marked
-          ∙ visited-is n l (s .pre .accepted) (a .change),
+          ∙ visited-is n l (s .pre .of .accepted) (a .change),
       c .before .before .search-outputs .ensures .1 ∙ ap (λ known. written (a .buffer .now) 0 (byteFrom n known (a .entries)) (a .outputs)) marked
-          ∙ bytes-are n l (s .pre .accepted) (a .change) (a .buffer .now),
+          ∙ bytes-are n l (s .pre .of .accepted) (a .change) (a .buffer .now),
     )
 
 pub judge-spec : {M : Type 1} → statement M

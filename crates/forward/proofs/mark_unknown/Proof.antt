@@ -50,7 +50,8 @@ loop-again c =
       search needs,
       ap₂ (λ now b. set now (a .inputs + l .gate) b) (l .inv .1)
           (c .known-or-8 .ensures
-          ∙ ap knownOr8 (ap (λ now. getD now (a .inputs + l .gate) 0) (l .inv .1) ∙ written-after (a .known .now) (a .inputs) _ (l .gate) (search needs) (l .gate) (omega arith)))
+          ∙ ap knownOr8 (ap (λ now. getD now (a .inputs + l .gate) 0) (l .inv .1)
+          ∙ written-after (a .known .now) (a .inputs) _ (l .gate) (search needs) (l .gate) (omega arith)))
           ∙ written-more _ _ _ _ (search needs),
     )
 
