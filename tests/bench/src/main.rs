@@ -1,317 +1,122 @@
-//! Times the library's calls against a tuned safe Rust version, in the same
-//! run and in turns, on many cards in rotation: with one card repeated the
-//! branch predictor learns it.
+//! Times the library's calls against plain and against tuned safe Rust, on
+//! cards of 16 to 2,048 gates, so that growth shows.
 //!
-//! `cargo run --release --offline --features netlist,full,core,forward`; a row
-//! whose feature is off shows the Rust time alone.
+//! `cargo run --release --offline --features netlist,full,core,forward`; words
+//! after `--` are other numbers of gates. A row whose feature is off shows the
+//! Rust times alone, as does the program's row where target/bin/lane is
+//! missing. The ratio to watch is that to plain Rust: above 1 the library is
+//! slower.
 
+mod against_full;
+#[cfg(test)]
+mod agreement;
 mod library;
+mod plain;
+mod race;
 mod tables;
 mod tuned;
+mod versions;
+mod whole;
 
-use reference::random::{self, Random, SHAPES};
-use std::hint::black_box;
-use std::time::{Duration, Instant};
+use race::{race, Sample, CARDS, CHANGES, TURNS};
+use std::path::Path;
+use std::process::ExitCode;
+use versions::Versions;
 
-/// Gates of the cards, one group of rows each.
-const SIZES: [usize; 5] = [16, 64, 256, 1024, 2048];
+/// Gates of the cards, unless others are asked for.
+const SIZES: [usize; 8] = [16, 32, 64, 128, 256, 512, 1024, 2048];
 
-/// Cards in rotation.
-const CARDS: usize = 60;
+/// A row's name and what it calls.
+type Row = (&'static str, fn() -> Versions);
 
-/// Changes of each card's list.
-const CHANGES: usize = 16;
+const ROWS: [Row; 8] = [
+    ("check netlist", versions::check_netlist),
+    ("check netlist + list", versions::check_list),
+    ("full", versions::full),
+    ("CORE", versions::core),
+    ("forward", versions::forward),
+    ("full, checked once", versions::full_once),
+    ("CORE, checked once", versions::core_once),
+    ("forward, checked once", versions::forward_once),
+];
 
-/// Turns of each side; the best counts.
-const TURNS: usize = 41;
-
-/// Length of a turn: short, so that some turns pass without a task switch.
-const TURN: Duration = Duration::from_millis(3);
-
-/// One card in the rotation.
-struct Sample {
-    netlist: Vec<u8>,
-    list: Vec<u8>,
-    outputs: usize,
-}
-
-/// One call: a card, a change and an output.
-#[derive(Clone, Copy)]
-struct Call<'a> {
-    sample: &'a Sample,
-    change: usize,
-    output: usize,
-}
-
-fn samples(gates: usize) -> Vec<Sample> {
-    let mut random = Random::new(gates as u64);
-    (0..CARDS)
-        .map(|number| {
-            let shape = SHAPES[number % SHAPES.len()];
-            let inputs = random.from_to(8, (gates / 4).clamp(9, 256));
-            let outputs = random.from_to(1, (gates / 8).clamp(2, 64));
-            let card = random::card(&mut random, shape, inputs, gates, outputs);
-            let (netlist, list) = random::files(&mut random, &card, CHANGES);
-            Sample {
-                netlist,
-                list,
-                outputs,
-            }
-        })
-        .collect()
-}
-
-/// Calls in an order that no predictor learns.
-fn calls(samples: &[Sample]) -> Vec<Call<'_>> {
-    let mut random = Random::new(99);
-    (0..64 * CARDS)
-        .map(|number| {
-            let sample = &samples[number % samples.len()];
-            Call {
-                sample,
-                change: random.below(CHANGES),
-                output: random.below(sample.outputs),
-            }
-        })
-        .collect()
-}
-
-/// Nanoseconds for a call in one turn, which is a pass over the calls.
-fn turn(calls: &[Call], work: &mut dyn FnMut(&Call)) -> f64 {
-    let start = Instant::now();
-    for call in calls {
-        work(call);
-    }
-    start.elapsed().as_nanos() as f64 / calls.len() as f64
-}
-
-/// As many of the calls as fill a turn, but each card at least once: every
-/// turn has to do the same work, or the best one would be the one with the
-/// easiest cards.
-fn one_turn<'a, 'b>(calls: &'a [Call<'b>], rust: &mut dyn FnMut(&Call)) -> &'a [Call<'b>] {
-    let each = turn(&calls[..CARDS], rust);
-    let fitting = (TURN.as_nanos() as f64 / each) as usize;
-    &calls[..(fitting / CARDS * CARDS).clamp(CARDS, calls.len())]
-}
-
-/// The best turn of the library, if it has the call, and of Rust.
-fn race(
-    calls: &[Call],
-    mut library: Option<&mut dyn FnMut(&Call)>,
-    rust: &mut dyn FnMut(&Call),
-) -> (Option<f64>, f64) {
-    let calls = one_turn(calls, rust);
-    let (mut best_library, mut best_rust) = (f64::MAX, f64::MAX);
-    for _ in 0..TURNS {
-        if let Some(work) = &mut library {
-            best_library = best_library.min(turn(calls, work));
-        }
-        best_rust = best_rust.min(turn(calls, rust));
-    }
-    (library.map(|_| best_library), best_rust)
-}
-
-fn print_row(gates: usize, name: &str, times: (Option<f64>, f64)) {
-    match times {
-        (Some(library), rust) => {
-            let ratio = library / rust;
-            println!("{gates:>5}  {name:<22}{library:>12.0}{rust:>12.0}{ratio:>8.2}");
-        }
-        (None, rust) => println!("{gates:>5}  {name:<22}{:>12}{rust:>12.0}{:>8}", "-", "-"),
-    }
-}
-
-/// A call that a feature may lack: the closure, or none.
-macro_rules! if_feature {
-    ($feature:literal, $work:expr) => {{
-        #[cfg(feature = $feature)]
-        let work = Some($work);
-        #[cfg(not(feature = $feature))]
-        let work: Option<fn(&Call)> = None;
-        work
-    }};
-}
-
-/// The closure as the race takes it.
-fn lent<F: FnMut(&Call)>(work: &mut Option<F>) -> Option<&mut dyn FnMut(&Call)> {
-    work.as_mut().map(|work| work as &mut dyn FnMut(&Call))
-}
-
-fn check_rows(gates: usize, calls: &[Call]) {
-    let mut index = tuned::new_index();
-    let mut library = if_feature!("netlist", |call: &Call| {
-        let mut answer = [0; 5];
-        black_box(library::check_netlist(&call.sample.netlist, &mut answer));
-        black_box(&answer);
-    });
-    let mut rust = |call: &Call| {
-        let _ = black_box(tuned::check_netlist(&call.sample.netlist, &mut index));
-        black_box(&index);
+fn print_row(gates: usize, name: &str, times: [Option<f64>; 3]) {
+    let number = |value: Option<f64>, digits: usize| match value {
+        Some(value) => format!("{value:.digits$}"),
+        None => "-".to_string(),
     };
-    print_row(
-        gates,
-        "check netlist",
-        race(calls, lent(&mut library), &mut rust),
-    );
-    let mut library = if_feature!("netlist", |call: &Call| {
-        let mut answer = [0; 5];
-        let (netlist, list) = (&call.sample.netlist, &call.sample.list);
-        black_box(library::check_list(netlist, list, &mut answer));
-        black_box(&answer);
-    });
-    let mut rust = |call: &Call| {
-        let (netlist, list) = (&call.sample.netlist, &call.sample.list);
-        let _ = black_box(tuned::check_list(netlist, list, &mut index));
-        black_box(&index);
-    };
-    print_row(
-        gates,
-        "check netlist + list",
-        race(calls, lent(&mut library), &mut rust),
+    let [library, plain, tuned] = times;
+    let ratio = |rust: Option<f64>| Some(library? / rust?);
+    println!(
+        "{gates:>5}  {name:<22}{:>11}{:>10}{:>7}{:>10}{:>7}{:>9}",
+        number(library, 0),
+        number(plain, 0),
+        number(ratio(plain), 2),
+        number(tuned, 0),
+        number(ratio(tuned), 2),
+        number(library.map(|time| time / gates as f64), 2),
     );
 }
 
-fn full_row(gates: usize, calls: &[Call]) {
-    let mut index = tuned::new_index();
-    let mut buffer = [0; 2304];
-    let mut library = if_feature!("full", |call: &Call| {
-        let mut answer = [0; 5];
-        let mut buffer = [0; 2304];
-        let (netlist, list) = (&call.sample.netlist, &call.sample.list);
-        black_box(library::full(
-            netlist,
-            list,
-            call.change,
-            &mut buffer,
-            &mut answer,
-        ));
-        black_box(&buffer);
-    });
-    let mut rust = |call: &Call| {
-        let (netlist, list) = (&call.sample.netlist, &call.sample.list);
-        let _ = black_box(tuned::full(
-            netlist,
-            list,
-            call.change,
-            &mut buffer,
-            &mut index,
-        ));
-        black_box(&buffer);
-    };
-    print_row(gates, "full", race(calls, lent(&mut library), &mut rust));
-}
-
-fn core_row(gates: usize, calls: &[Call]) {
-    let mut index = tuned::new_index();
-    let mut library = if_feature!("core", |call: &Call| {
-        let mut answer = [0; 5];
-        let (netlist, list) = (&call.sample.netlist, &call.sample.list);
-        black_box(library::core(
-            netlist,
-            list,
-            call.change,
-            call.output,
-            &mut answer,
-        ));
-        black_box(&answer);
-    });
-    let mut rust = |call: &Call| {
-        let (netlist, list) = (&call.sample.netlist, &call.sample.list);
-        let _ = black_box(tuned::core(
-            netlist,
-            list,
-            call.change,
-            call.output,
-            &mut index,
-        ));
-    };
-    print_row(gates, "core", race(calls, lent(&mut library), &mut rust));
-}
-
-fn forward_row(gates: usize, calls: &[Call]) {
-    let mut index = tuned::new_index();
-    let mut buffer = [0; 64];
-    let mut library = if_feature!("forward", |call: &Call| {
-        let mut answer = [0; 5];
-        let mut buffer = [0; 64];
-        let (netlist, list) = (&call.sample.netlist, &call.sample.list);
-        black_box(library::forward(
-            netlist,
-            list,
-            call.change,
-            &mut buffer,
-            &mut answer,
-        ));
-        black_box(&buffer);
-    });
-    let mut rust = |call: &Call| {
-        let (netlist, list) = (&call.sample.netlist, &call.sample.list);
-        let _ = black_box(tuned::forward(
-            netlist,
-            list,
-            call.change,
-            &mut buffer,
-            &mut index,
-        ));
-        black_box(&buffer);
-    };
-    print_row(gates, "forward", race(calls, lent(&mut library), &mut rust));
-}
-
-/// Calls on a card that was checked before; the library has no such form yet,
-/// so its column stays empty.
-fn once_rows(gates: usize, samples: &[Sample], calls: &[Call]) {
-    let indexed: Vec<(*const Sample, tuned::Index)> = samples
-        .iter()
-        .map(|sample| {
-            let mut index = tuned::new_index();
-            let accepted = tuned::check_list(&sample.netlist, &sample.list, &mut index);
-            assert!(accepted.is_ok(), "cards in rotation are accepted");
-            (std::ptr::from_ref(sample), index)
-        })
-        .collect();
-    // Calls go through the samples in their order.
-    let mut at = 0;
-    let mut next = |call: &Call| {
-        while !std::ptr::eq(indexed[at % indexed.len()].0, call.sample) {
-            at += 1;
-        }
-        &indexed[at % indexed.len()].1
-    };
-    let mut buffer = [0; 2304];
-    let mut rust = |call: &Call| {
-        let (netlist, list) = (&call.sample.netlist, &call.sample.list);
-        tuned::full_once(netlist, list, call.change, &mut buffer, next(call));
-        black_box(&buffer);
-    };
-    print_row(gates, "full, checked once", race(calls, None, &mut rust));
-    let mut rust = |call: &Call| {
-        let (netlist, list) = (&call.sample.netlist, &call.sample.list);
-        let found = tuned::core_once(netlist, list, call.change, call.output, next(call));
-        black_box(found);
-    };
-    print_row(gates, "core, checked once", race(calls, None, &mut rust));
-    let mut rust = |call: &Call| {
-        let (netlist, list) = (&call.sample.netlist, &call.sample.list);
-        let found = tuned::forward_once(netlist, list, call.change, &mut buffer, next(call));
-        black_box(found);
-    };
-    print_row(gates, "forward, checked once", race(calls, None, &mut rust));
-}
-
-fn main() {
+fn print_calls(groups: &[(String, Vec<Sample>)]) {
     println!("{CARDS} cards in rotation, {CHANGES} changes each, best of {TURNS} turns");
     println!(
-        "{:>5}  {:<22}{:>12}{:>12}{:>8}",
-        "gates", "call", "library ns", "Rust ns", "ratio"
+        "{:>5}  {:<22}{:>11}{:>10}{:>7}{:>10}{:>7}{:>9}",
+        "gates", "call", "library ns", "plain ns", "ratio", "tuned ns", "ratio", "ns/gate"
     );
-    for gates in SIZES {
-        let samples = samples(gates);
-        let calls = calls(&samples);
-        check_rows(gates, &calls);
-        full_row(gates, &calls);
-        core_row(gates, &calls);
-        forward_row(gates, &calls);
-        once_rows(gates, &samples, &calls);
+    for (name, versions) in ROWS {
+        for (_, samples) in groups {
+            let times = race(&race::calls(samples), versions());
+            print_row(samples[0].card.gates, name, times);
+        }
+    }
+    println!();
+}
+
+/// A bundled card as a group of its own.
+fn bundled(name: &str) -> Option<(String, Vec<Sample>)> {
+    let folder = Path::new(env!("CARGO_MANIFEST_DIR"))
+        .join("../../examples")
+        .join(name);
+    let netlist = std::fs::read(folder.join("lane.lcn")).ok()?;
+    let list = std::fs::read(folder.join("lane.lct")).ok()?;
+    Some((name.to_string(), vec![Sample::new(netlist, list)]))
+}
+
+fn print_all(sizes: &[usize]) -> std::io::Result<()> {
+    let group = |gates: &usize| (gates.to_string(), race::samples(*gates));
+    let mut groups: Vec<(String, Vec<Sample>)> = sizes.iter().map(group).collect();
+    print_calls(&groups);
+    groups.extend(bundled("two_lanes"));
+    groups.extend(bundled("five_lanes"));
+    against_full::print_visits(&groups);
+    against_full::print_times(&groups);
+    whole::print_table(sizes)
+}
+
+fn sizes(words: &[String]) -> Option<Vec<usize>> {
+    if words.is_empty() {
+        return Some(SIZES.to_vec());
+    }
+    let size = |word: &String| word.parse().ok().filter(|size| (1..=2048).contains(size));
+    words.iter().map(size).collect()
+}
+
+fn main() -> ExitCode {
+    let words: Vec<String> = std::env::args().skip(1).collect();
+    let done = match (whole::run_as_program(&words), sizes(&words)) {
+        (Some(done), _) => done,
+        (None, Some(sizes)) => print_all(&sizes),
+        (None, None) => {
+            eprintln!("bench [GATES..], each from 1 to 2048");
+            return ExitCode::FAILURE;
+        }
+    };
+    match done {
+        Ok(()) => ExitCode::SUCCESS,
+        Err(error) => {
+            eprintln!("bench: {error}");
+            ExitCode::FAILURE
+        }
     }
 }

@@ -304,7 +304,7 @@ const KNOWN: u8 = 0x40;
 const VISITED: u8 = 0x80;
 
 /// A visit's end: a class below 8, 8 + result, or this.
-const HAZARD: u8 = 0xFF;
+pub const HAZARD: u8 = 0xFF;
 
 struct Search<'a> {
     netlist: &'a [u8],
@@ -397,6 +397,10 @@ fn search(
     (verdict, search.gates, search.pins)
 }
 
+pub fn output_signal(netlist: &[u8], index: &Index, output: usize) -> usize {
+    word(netlist, index.entries_at + 2 * output)
+}
+
 /// CORE on a card that was checked before.
 pub fn core_once(
     netlist: &[u8],
@@ -411,7 +415,7 @@ pub fn core_once(
     for cell in &mut cells[..index.inputs] {
         *cell |= KNOWN;
     }
-    let signal = word(netlist, index.entries_at + 2 * output);
+    let signal = output_signal(netlist, index, output);
     search(netlist, index, &mut cells, signal)
 }
 
@@ -488,7 +492,7 @@ pub fn forward_once(
     let mut cells = start;
     let mut visited = 0;
     for (output, byte) in buffer[..index.outputs].iter_mut().enumerate() {
-        let signal = word(netlist, index.entries_at + 2 * output);
+        let signal = output_signal(netlist, index, output);
         let (verdict, gates, _) = search(netlist, index, &mut cells, signal);
         if gates > 0 {
             cells[index.inputs..signals].copy_from_slice(&start[index.inputs..signals]);
@@ -514,88 +518,4 @@ pub fn forward(
         return Err((20, 0));
     }
     Ok(forward_once(netlist, list, change, buffer, index))
-}
-
-#[cfg(test)]
-mod tests {
-    use super::*;
-    use reference::core::Verdict;
-    use reference::netlist::Refused as Refusal;
-    use reference::random::{self, Random};
-
-    fn refusal<T>(result: Result<T, Refused>) -> Result<T, Refusal> {
-        result.map_err(|(number, place)| Refusal {
-            number,
-            place: place as u64,
-        })
-    }
-
-    fn verdict(code: u8) -> Verdict {
-        match code {
-            HAZARD => Verdict::Hazardous,
-            class => Verdict::Clean(reference::classes::Class::of_code(class)),
-        }
-    }
-
-    fn same_checks(netlist: &[u8], list: &[u8], index: &mut Index) {
-        let found = refusal(check_list(netlist, list, index));
-        let right = reference::changes::check(netlist, list);
-        let right = right.map(|a| (a.changes as usize, a.vector as usize));
-        assert_eq!(found, right);
-        if let Ok(right) = reference::netlist::check(netlist) {
-            check_netlist(netlist, index).unwrap();
-            let counts = [index.inputs, index.gates, index.outputs, index.pins];
-            let wanted = [right.inputs, right.gates, right.outputs, right.pins];
-            assert_eq!(counts.map(|count| count as u64), wanted);
-            assert_eq!(index.entries_at as u64, right.entries_at);
-        }
-    }
-
-    fn same_calls(netlist: &[u8], list: &[u8], change: usize, index: &mut Index) {
-        let (mut found, mut right) = ([0xEE; 2400], [0xEE; 2400]);
-        let answer = refusal(full(netlist, list, change, &mut found, index));
-        assert_eq!(
-            answer,
-            reference::full::simulate(netlist, list, change, &mut right)
-        );
-        assert_eq!(found, right);
-        let (mut found, mut right) = ([0xEE; 70], [0xEE; 70]);
-        let answer = refusal(forward(netlist, list, change, &mut found, index));
-        let wanted = reference::forward::forward(netlist, list, change, &mut right);
-        let wanted = wanted.map(|counts| (counts.touched as usize, counts.visited as usize));
-        assert_eq!(answer, wanted);
-        assert_eq!(found, right);
-        for output in [0, 1, 5, 63, 64] {
-            let answer = refusal(core(netlist, list, change, output, index));
-            let answer = answer.map(|(code, gates, pins)| reference::core::Answer {
-                verdict: verdict(code),
-                gates: gates as u64,
-                pins: pins as u64,
-            });
-            assert_eq!(answer, reference::core::core(netlist, list, change, output));
-        }
-    }
-
-    /// The times mean something only if the answers are right.
-    #[test]
-    fn agrees_with_the_reference() {
-        let mut random = Random::new(71);
-        let mut index = new_index();
-        for round in 0..3000 {
-            let card = match round % 20 {
-                0 => random::any_card(&mut random),
-                _ => random::small_card(&mut random),
-            };
-            let (mut netlist, mut list) = random::files(&mut random, &card, 2);
-            match random.below(6) {
-                0 => random::damage_netlist(&mut random, &card, &mut netlist),
-                1 => random::damage_list(&mut random, card.inputs, &mut list),
-                _ => {}
-            }
-            same_checks(&netlist, &list, &mut index);
-            for change in 0..3 {
-                same_calls(&netlist, &list, change, &mut index);
-            }
-        }
-    }
 }

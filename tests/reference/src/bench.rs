@@ -167,11 +167,11 @@ impl<'a> Bench<'a> {
     }
 }
 
-/// What stands before, between and after all orders of a small card.
+/// Everything that the orders of a small card can reach.
 pub struct Explored {
-    /// All states that an order can reach.
+    /// All states.
     pub states: HashSet<State>,
-    /// By signal, the numbers of changes that an order can reach.
+    /// By signal, the numbers of changes.
     pub counts: Vec<BTreeSet<u32>>,
 }
 
@@ -343,7 +343,7 @@ mod tests {
         ends
     }
 
-    /// The first gate of each pin event never falls back.
+    /// Inputs first, then the pins of one gate after those of the other.
     fn is_gate_after_gate(events: &[Event]) -> bool {
         let rank = |event: &Event| match event {
             Event::Input(_) => 0,

@@ -5,16 +5,23 @@
 //! cards unpack DIR    prints the text form of the two files
 //! cards print DIR     prints what the program has to print for them
 //! cards damage DIR netlist|list set AT BYTE.. | flip AT BIT | cut LENGTH | append BYTE..
+//! cards random DIR SEED    a random card of any size, for odd seeds damaged
+//! cards largest DIR SEED   a random card with all four counts at their limits
+//! cards widest DIR SEED    one of 2,048 gates of eight pins, with deep cones
 //! ```
 
+use reference::changes::MAX_CHANGES;
+use reference::netlist::{MAX_GATES, MAX_INPUTS, MAX_OUTPUTS};
 use reference::program;
+use reference::random::{self, Random, Shape};
 use reference::text::{file_of, pack, unpack, Damage, Files, Mistake};
 use std::fs;
 use std::io::{ErrorKind, Write};
 use std::path::{Path, PathBuf};
 use std::process::ExitCode;
 
-const USAGE: &str = "cards pack DIR | unpack DIR | print DIR | damage DIR FILE WAY ..";
+const USAGE: &str = "cards pack DIR | unpack DIR | print DIR | damage DIR FILE WAY .. \
+                     | random DIR SEED | largest DIR SEED | widest DIR SEED";
 
 fn netlist_path(folder: &Path) -> PathBuf {
     folder.join("lane.lcn")
@@ -79,6 +86,50 @@ fn damage_folder(folder: &Path, file: &str, way: &[&str]) -> Result<(), Mistake>
     store_both(folder, &files)
 }
 
+fn seeded(seed: &str) -> Result<Random, Mistake> {
+    match seed.parse() {
+        Ok(seed) => Ok(Random::new(seed)),
+        Err(_) => Err(format!("`{seed}` is not a seed")),
+    }
+}
+
+fn store_card(folder: &Path, netlist: Vec<u8>, list: Vec<u8>) -> Result<(), Mistake> {
+    let files = Files {
+        netlist: Some(netlist),
+        list: Some(list),
+    };
+    store_both(folder, &files)
+}
+
+fn random_folder(folder: &Path, seed: &str) -> Result<(), Mistake> {
+    let mut random = seeded(seed)?;
+    let card = random::any_card(&mut random);
+    let count = random.pick(&[0, 1, 2, 5, 30]);
+    let (mut netlist, mut list) = random::files(&mut random, &card, count);
+    if seed.ends_with(['1', '5', '9']) {
+        random::damage_netlist(&mut random, &card, &mut netlist);
+    }
+    if seed.ends_with(['3', '7', '9']) {
+        random::damage_list(&mut random, card.inputs, &mut list);
+    }
+    store_card(folder, netlist, list)
+}
+
+fn largest_folder(folder: &Path, seed: &str) -> Result<(), Mistake> {
+    let mut random = seeded(seed)?;
+    let shape = Shape::TwoLevel;
+    let card = random::card(&mut random, shape, MAX_INPUTS, MAX_GATES, MAX_OUTPUTS);
+    let (netlist, list) = random::files(&mut random, &card, MAX_CHANGES);
+    store_card(folder, netlist, list)
+}
+
+fn widest_folder(folder: &Path, seed: &str) -> Result<(), Mistake> {
+    let mut random = seeded(seed)?;
+    let card = random::widest_card(&mut random);
+    let (netlist, list) = random::files(&mut random, &card, 3);
+    store_card(folder, netlist, list)
+}
+
 fn run(words: &[&str]) -> Result<(), Mistake> {
     match words {
         ["pack", folder] => pack_folder(Path::new(folder)),
@@ -87,6 +138,9 @@ fn run(words: &[&str]) -> Result<(), Mistake> {
             Ok(())
         }
         ["print", folder] => print_folder(Path::new(folder)),
+        ["random", folder, seed] => random_folder(Path::new(folder), seed),
+        ["largest", folder, seed] => largest_folder(Path::new(folder), seed),
+        ["widest", folder, seed] => widest_folder(Path::new(folder), seed),
         ["damage", folder, file, way @ ..] => damage_folder(Path::new(folder), file, way),
         _ => Err(USAGE.to_string()),
     }

@@ -1,0 +1,30 @@
+-- The line of an output, from what the search found. Assumes nothing.
+use Prim.Native.Nat.{ℕ}
+use mathlib.Core.Path.{_≡_, refl, sym, _∙_, ap, ap₂}
+use mathlib.Core.Bool.{Bool}
+use mathlib.Core.List.{List}
+use lib.ListN.{getD}
+use Rattle.kung.specs.Class.{ofCode}
+use Rattle.kung.specs.Sets.{cleanSet}
+use Rattle.netlist.specs.Netlist.{outputAt}
+use Rattle.search.specs.Search.{Verdict, clean, hazardous, search}
+use Rattle.core.specs.declared.Found.{Found}
+use Rattle.core.specs.Source.{sourceFrom}
+use Rattle.core.specs.Found.{verdictCode, foundOf}
+use Rattle.core.proofs.Entry.{clean-set}
+use Rattle.report.specs.Text.{verdictLine}
+use Rattle.listing.specs.Listing.{isClean}
+use Rattle.listing.specs.Lent.{cleanVerdict, lineFrom}
+
+verdict-clean : (v : Verdict) → cleanVerdict (verdictCode v) ≡ isClean v
+verdict-clean (clean k) = refl
+verdict-clean hazardous = refl
+
+pub line-is : (n known classes : List ℕ) (change output s : ℕ) (found : Found) (b : Bool) → s ≡ outputAt n output
+    → found ≡ foundOf (search (sourceFrom n known) 15 s) → b ≡ cleanVerdict (found .verdict)
+    → verdictLine change output (ofCode (getD classes s 0)) b (found .gates) (found .pins) ≡ lineFrom n known classes change output
+unfolding lineFrom
+line-is n known classes change output s found b here e judged =
+    let answer = search (sourceFrom n known) cleanSet (outputAt n output) in
+    let same : found ≡ foundOf answer = e ∙ ap₂ (λ w s. foundOf (search (sourceFrom n known) w s)) (sym clean-set) here in
+    (λ i. verdictLine change output (ofCode (getD classes (here i) 0)) ((judged ∙ ap (λ f. cleanVerdict (f .verdict)) same ∙ verdict-clean (answer .verdict)) i) (same i .gates) (same i .pins))

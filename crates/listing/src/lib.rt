@@ -1,0 +1,298 @@
+// What the program prints, made in a lent buffer: the first line, then the lines of the changes, a page at a time.
+ghost use mathlib.Core.Path.{_≡_};
+ghost use Prim.Native.Nat.{_+_, _≤_, _<_};
+ghost use lib.ListN.{length};
+ghost use Rattle.changes.specs.Refusals.{listChecked};
+ghost use Rattle.report.specs.Appended.{Appended};
+ghost use Rattle.listing.specs.Listing.{texts, changeLines, firstLine};
+ghost use Rattle.listing.specs.Lent.{sizesOf, cleanVerdict, lineFrom, Lined, Tabled, Headed, Paged};
+use changes::Listed;
+use core::Verdict;
+
+// The most bytes of a change's lines: 64 lines of at most 48 bytes.
+const ROOM: usize = 3072;
+
+// The sizes of an accepted card and its list; no changes on a refusal.
+pub struct Sizes {
+    pub inputs: usize,
+    pub gates: usize,
+    pub outputs: usize,
+    pub entries: usize,
+    pub changes: usize,
+    pub width: usize,
+}
+
+// What the first line leaves: its length, and the sizes for the lines that follow.
+pub struct Head {
+    pub length: usize,
+    pub sizes: Sizes,
+}
+
+// What a page leaves: its length, and the change that the next page begins with.
+pub struct Page {
+    pub length: usize,
+    pub next: usize,
+}
+
+// Checks the card and its list, and writes the line of the counts, or of the refusal, at the buffer's start.
+pub fn put_head(netlist: &[u8], list: &[u8], buffer: &mut [u8]) -> Head
+    requires { ⌜ 64 ≤ length (now buffer) ⌝ }
+    ensures { λ r. ⌜ Headed (now (netlist .entry)) (now (list .entry)) (now (buffer .entry)) (now (buffer .exit)) r ⌝ }
+{
+    let listed = changes::check(netlist, list);
+    match listed {
+        Listed::Refused(number, place) => {
+            let length = report::put_refusal(buffer, 0, number, place);
+            Head {
+                length: length,
+                sizes: Sizes {
+                    inputs: 0,
+                    gates: 0,
+                    outputs: 0,
+                    entries: 0,
+                    changes: 0,
+                    width: 0,
+                },
+            }
+        }
+        Listed::Accepted {
+            inputs,
+            gates,
+            outputs,
+            pins: _,
+            entries,
+            changes,
+            width,
+        } => {
+            let length = report::put_counts(buffer, 0, inputs, gates, outputs, changes);
+            Head {
+                length: length,
+                sizes: Sizes {
+                    inputs: inputs,
+                    gates: gates,
+                    outputs: outputs,
+                    entries: entries,
+                    changes: changes,
+                    width: width,
+                },
+            }
+        }
+    }
+}
+
+fn is_clean(verdict: Verdict) -> bool
+    ensures { λ r. ⌜ r ≡ cleanVerdict verdict ⌝ }
+{
+    match verdict {
+        Verdict::Clean { class: _ } => true,
+        Verdict::Hazardous => false,
+    }
+}
+
+// The line of an output.
+fn put_output(
+    images: &[u8; 4096],
+    wanteds: &[u8; 4608],
+    netlist: &[u8],
+    places: &[u16],
+    known: &[u8],
+    classes: &[u8],
+    cells: &mut [u8],
+    sizes: Sizes,
+    change: usize,
+    output: usize,
+    buffer: &mut [u8],
+    at: usize,
+) -> usize
+    requires { ⌜ Lined (now images) (now wanteds) (now netlist) (now places) (now known) (now classes) sizes ⌝ }
+    requires { ⌜ (output < sizes .outputs) × (length (now known) ≤ length (now cells)) ⌝ }
+    requires { ⌜ at + length (lineFrom (now netlist) (now known) (now classes) change output) ≤ length (now buffer) ⌝ }
+    ensures { λ r. ⌜ Appended (now (buffer .entry)) (now (buffer .exit)) at r (lineFrom (now (netlist .entry)) (now (known .entry)) (now (classes .entry)) change output) ⌝ }
+{
+    let s = netlist::entry_at(netlist, sizes.entries, output) as usize;
+    let found = core::find(
+        images,
+        wanteds,
+        netlist,
+        places,
+        known,
+        cells,
+        sizes.inputs,
+        15,
+        s,
+    );
+    let verdict = found.verdict;
+    report::put_verdict(
+        buffer,
+        at,
+        change,
+        output,
+        classes[s],
+        is_clean(verdict),
+        found.gates,
+        found.pins,
+    )
+}
+
+// The lines of all outputs.
+fn put_outputs(
+    images: &[u8; 4096],
+    wanteds: &[u8; 4608],
+    netlist: &[u8],
+    places: &[u16],
+    known: &[u8],
+    classes: &[u8],
+    sizes: Sizes,
+    change: usize,
+    buffer: &mut [u8],
+    at: usize,
+) -> usize
+    requires { ⌜ Lined (now images) (now wanteds) (now netlist) (now places) (now known) (now classes) sizes ⌝ }
+    requires { ⌜ at + length (texts (lineFrom (now netlist) (now known) (now classes) change) 0 (sizes .outputs)) ≤ length (now buffer) ⌝ }
+    ensures { λ r. ⌜ Appended (now (buffer .entry)) (now (buffer .exit)) at r (texts (lineFrom (now (netlist .entry)) (now (known .entry)) (now (classes .entry)) change) 0 (sizes .outputs)) ⌝ }
+{
+    let mut cells = [0u8; 2304];
+    let mut next = at;
+    let mut output: usize = 0;
+    while output < sizes.outputs {
+        next = put_output(
+            images,
+            wanteds,
+            netlist,
+            places,
+            known,
+            classes,
+            &mut cells,
+            sizes,
+            change,
+            output,
+            buffer,
+            next,
+        );
+        output += 1;
+    }
+    next
+}
+
+// The lines of a change: one simulation, and a search for each output.
+fn put_change(
+    images: &[u8; 4096],
+    wanteds: &[u8; 4608],
+    table: &[u8; 2048],
+    netlist: &[u8],
+    list: &[u8],
+    places: &[u16],
+    sizes: Sizes,
+    change: usize,
+    buffer: &mut [u8],
+    at: usize,
+) -> usize
+    requires { ⌜ Tabled (now images) (now wanteds) (now table) (now netlist) (now list) (now places) sizes ⌝ }
+    requires { ⌜ (change < sizes .changes) × (at + 3072 ≤ length (now buffer)) ⌝ }
+    ensures { λ r. ⌜ Appended (now (buffer .entry)) (now (buffer .exit)) at r (changeLines (now (netlist .entry)) (now (list .entry)) change) ⌝ }
+{
+    let mut known = [8u8; 2304];
+    changes::fill_inputs(list, sizes.width, change, sizes.inputs, &mut known);
+    let mut classes = [0u8; 2304];
+    simulate::classify(
+        table,
+        netlist,
+        list,
+        sizes.inputs,
+        sizes.gates,
+        sizes.width,
+        change,
+        &mut classes,
+    );
+    let signals = sizes.inputs + sizes.gates;
+    put_outputs(
+        images,
+        wanteds,
+        netlist,
+        places,
+        &known[..signals],
+        &classes,
+        sizes,
+        change,
+        buffer,
+        at,
+    )
+}
+
+// The lines of the changes from `from` on, until fewer bytes are left than a change may need.
+fn put_page(
+    images: &[u8; 4096],
+    wanteds: &[u8; 4608],
+    table: &[u8; 2048],
+    netlist: &[u8],
+    list: &[u8],
+    places: &[u16],
+    sizes: Sizes,
+    from: usize,
+    buffer: &mut [u8],
+) -> Page
+    requires { ⌜ Tabled (now images) (now wanteds) (now table) (now netlist) (now list) (now places) sizes ⌝ }
+    requires { ⌜ (from < sizes .changes) × (3072 ≤ length (now buffer)) ⌝ }
+    ensures { λ r. ⌜ Paged (now (netlist .entry)) (now (list .entry)) (now (buffer .entry)) (now (buffer .exit)) (sizes .changes) from r ⌝ }
+{
+    let mut change = from;
+    let mut at: usize = 0;
+    loop {
+        at = put_change(
+            images,
+            wanteds,
+            table,
+            netlist,
+            list,
+            places,
+            sizes,
+            change,
+            buffer,
+            at,
+        );
+        change += 1;
+        if change == sizes.changes {
+            return Page {
+                length: at,
+                next: change,
+            };
+        }
+        if buffer.len() - at < ROOM {
+            return Page {
+                length: at,
+                next: change,
+            };
+        }
+    }
+}
+
+// Writes the lines of the changes from `from` on at the buffer's start, as many as have room. The sizes are those of the first line's check:
+// nothing is checked again.
+pub fn put_changes(
+    netlist: &[u8],
+    list: &[u8],
+    sizes: Sizes,
+    from: usize,
+    buffer: &mut [u8],
+) -> Page
+    requires { ⌜ sizes ≡ sizesOf (listChecked (now netlist) (now list)) ⌝ }
+    requires { ⌜ (from < sizes .changes) × (3072 ≤ length (now buffer)) ⌝ }
+    ensures { λ r. ⌜ Paged (now (netlist .entry)) (now (list .entry)) (now (buffer .entry)) (now (buffer .exit)) (sizes .changes) from r ⌝ }
+{
+    let images = kung::images();
+    let wanteds = kung::wanted_table();
+    let table = kung::gate_table();
+    let mut places = [0u16; 2048];
+    netlist::fill_places(netlist, &mut places, sizes.gates);
+    put_page(
+        &images,
+        &wanteds,
+        &table,
+        netlist,
+        list,
+        &places,
+        sizes,
+        from,
+        buffer,
+    )
+}

@@ -1,0 +1,488 @@
+//! The same calls in plain safe Rust: loops over the bytes as document 01 has
+//! them, a table for the join of two classes and one for the images of sets.
+//! No tricks with words or columns, no table made for speed alone.
+
+use crate::tables::{IMAGE, JOIN};
+
+pub type Refused = (u32, usize);
+
+/// An accepted netlist.
+pub struct Card {
+    pub inputs: usize,
+    pub gates: usize,
+    pub outputs: usize,
+    pub pins: usize,
+    pub entries_at: usize,
+}
+
+fn word(bytes: &[u8], at: usize) -> usize {
+    usize::from(u16::from_le_bytes([bytes[at], bytes[at + 1]]))
+}
+
+fn pin_limits(kind: u8) -> Option<(usize, usize)> {
+    match kind {
+        1 | 2 => Some((1, 1)),
+        3..=6 => Some((2, 8)),
+        _ => None,
+    }
+}
+
+/// The first of the entries from a place on that is not below the bound.
+fn first_bad(bytes: &[u8], from: usize, count: usize, bound: usize) -> Option<usize> {
+    (0..count)
+        .map(|entry| from + 2 * entry)
+        .find(|at| word(bytes, *at) >= bound)
+}
+
+/// Pin count of the record at a place.
+fn check_record(netlist: &[u8], at: usize, signal: usize) -> Result<usize, Refused> {
+    if netlist.len() - at < 2 {
+        return Err((5, at));
+    }
+    let Some((least, most)) = pin_limits(netlist[at]) else {
+        return Err((6, at));
+    };
+    let count = usize::from(netlist[at + 1]);
+    if count < least || count > most {
+        return Err((7, at + 1));
+    }
+    if netlist.len() - at < 2 + 2 * count {
+        return Err((5, at));
+    }
+    match first_bad(netlist, at + 2, count, signal) {
+        Some(bad) => Err((8, bad)),
+        None => Ok(count),
+    }
+}
+
+pub fn check_netlist(netlist: &[u8]) -> Result<Card, Refused> {
+    if netlist.len() < 11 {
+        return Err((1, netlist.len()));
+    }
+    if &netlist[..3] != b"LCN" {
+        return Err((2, 0));
+    }
+    if word(netlist, 3) != 1 {
+        return Err((3, 3));
+    }
+    let (inputs, gates, outputs) = (word(netlist, 5), word(netlist, 7), word(netlist, 9));
+    if !(1..=256).contains(&inputs) {
+        return Err((4, 5));
+    }
+    if gates > 2048 {
+        return Err((4, 7));
+    }
+    if !(1..=64).contains(&outputs) {
+        return Err((4, 9));
+    }
+    let (mut at, mut pins) = (11, 0);
+    for gate in 0..gates {
+        let count = check_record(netlist, at, inputs + gate)?;
+        pins += count;
+        at += 2 + 2 * count;
+    }
+    if netlist.len() - at < 2 * outputs {
+        return Err((5, at));
+    }
+    if let Some(bad) = first_bad(netlist, at, outputs, inputs + gates) {
+        return Err((9, bad));
+    }
+    if netlist.len() > at + 2 * outputs {
+        return Err((10, at + 2 * outputs));
+    }
+    Ok(Card {
+        inputs,
+        gates,
+        outputs,
+        pins,
+        entries_at: at,
+    })
+}
+
+fn tie(netlist: &[u8]) -> u32 {
+    let (mut a, mut b) = (0u32, 0u32);
+    for byte in netlist {
+        a = a.wrapping_add(u32::from(*byte));
+        b = b.wrapping_add(a);
+    }
+    b
+}
+
+/// Checks a netlist and its list; gives the card and T.
+pub fn check_list(netlist: &[u8], list: &[u8]) -> Result<(Card, usize), Refused> {
+    let card = check_netlist(netlist)?;
+    if list.len() < 11 {
+        return Err((11, list.len()));
+    }
+    if &list[..3] != b"LCT" {
+        return Err((12, 0));
+    }
+    if word(list, 3) != 1 {
+        return Err((13, 3));
+    }
+    if list[5..9] != tie(netlist).to_le_bytes() {
+        return Err((14, 5));
+    }
+    let changes = word(list, 9);
+    if changes > 1000 {
+        return Err((15, 9));
+    }
+    let width = card.inputs.div_ceil(8);
+    if list.len() != 11 + 2 * changes * width {
+        return Err((16, list.len()));
+    }
+    if card.inputs % 8 != 0 {
+        for at in (11 + width - 1..list.len()).step_by(width) {
+            if list[at] >> (card.inputs % 8) != 0 {
+                return Err((17, at));
+            }
+        }
+    }
+    Ok((card, changes))
+}
+
+/// The list's refusals, then 18.
+fn open(netlist: &[u8], list: &[u8], change: usize) -> Result<Card, Refused> {
+    let (card, changes) = check_list(netlist, list)?;
+    match change < changes {
+        true => Ok(card),
+        false => Err((18, 0)),
+    }
+}
+
+fn input_class(list: &[u8], width: usize, change: usize, input: usize) -> u8 {
+    let at = 11 + 2 * change * width + input / 8;
+    let first = list[at] >> (input % 8) & 1;
+    let second = list[at + width] >> (input % 8) & 1;
+    match (first, second) {
+        (0, 0) => 0,
+        (0, _) => 2,
+        (_, 0) => 3,
+        _ => 1,
+    }
+}
+
+fn fill_inputs(list: &[u8], card: &Card, change: usize, classes: &mut [u8]) {
+    let width = card.inputs.div_ceil(8);
+    for (input, class) in classes.iter_mut().enumerate() {
+        *class = input_class(list, width, change, input);
+    }
+}
+
+fn is_or(kind: u8) -> bool {
+    kind == 4 || kind == 6
+}
+
+fn inverts(kind: u8) -> bool {
+    kind == 1 || kind == 5 || kind == 6
+}
+
+/// The row of p in the tables of joins and images.
+fn row(kind: u8, p: u8) -> usize {
+    usize::from(p) + if is_or(kind) { 8 } else { 0 }
+}
+
+fn join(kind: u8, p: u8, class: u8) -> u8 {
+    JOIN[row(kind, p)][usize::from(class)]
+}
+
+/// `1` for AND-like kinds, `0` for OR and NOR.
+fn unit(kind: u8) -> u8 {
+    u8::from(!is_or(kind))
+}
+
+// ---------------------------------------------------------------------------
+// Full simulation.
+
+/// Full simulation of a card that was checked before.
+pub fn full_once(netlist: &[u8], list: &[u8], card: &Card, change: usize, buffer: &mut [u8]) {
+    fill_inputs(list, card, change, &mut buffer[..card.inputs]);
+    let mut at = 11;
+    for gate in 0..card.gates {
+        let kind = netlist[at];
+        let count = usize::from(netlist[at + 1]);
+        let mut p = unit(kind);
+        for pin in 0..count {
+            p = join(kind, p, buffer[word(netlist, at + 2 + 2 * pin)]);
+        }
+        buffer[card.inputs + gate] = if inverts(kind) { p ^ 1 } else { p };
+        at += 2 + 2 * count;
+    }
+}
+
+pub fn full(netlist: &[u8], list: &[u8], change: usize, buffer: &mut [u8]) -> Result<(), Refused> {
+    let card = open(netlist, list, change)?;
+    if buffer.len() < card.inputs + card.gates {
+        return Err((20, 0));
+    }
+    full_once(netlist, list, &card, change, buffer);
+    Ok(())
+}
+
+// ---------------------------------------------------------------------------
+// CORE.
+
+/// What a signal's class is known to be, or how far its gate has come.
+#[derive(Clone, Copy)]
+enum Cell {
+    Known(u8),
+    New,
+    Unfinished { p: u8, next: u8 },
+}
+
+/// How a visit ends.
+enum End {
+    Hazardous,
+    Known(u8),
+    Unfinished(u8),
+}
+
+/// The set of the inverted members: codes 2k and 2k + 1 change places.
+fn invert_set(set: u8) -> u8 {
+    (set & 0x55) << 1 | (set & 0xAA) >> 1
+}
+
+fn possible(kind: u8, p: u8, left: bool) -> u8 {
+    let set = match left {
+        true => IMAGE[row(kind, p)][0xFF],
+        false => 1 << p,
+    };
+    if inverts(kind) {
+        invert_set(set)
+    } else {
+        set
+    }
+}
+
+fn wanted_behind(kind: u8, p: u8, left_after: bool, wanted: u8) -> u8 {
+    let mut set = 0;
+    for class in 0..8 {
+        if possible(kind, join(kind, p, class), left_after) & wanted != 0 {
+            set |= 1 << class;
+        }
+    }
+    set
+}
+
+struct Search<'a> {
+    netlist: &'a [u8],
+    inputs: usize,
+    places: &'a [usize],
+    cells: &'a mut [Cell],
+    gates: usize,
+    pins: usize,
+}
+
+impl Search<'_> {
+    fn visit(&mut self, signal: usize, wanted: u8, waiting: Option<usize>) -> End {
+        let at = self.places[signal - self.inputs];
+        let kind = self.netlist[at];
+        let count = self.netlist[at + 1];
+        let (mut p, mut next) = match self.cells[signal] {
+            Cell::Unfinished { p, next } => (p, next),
+            _ => {
+                self.gates += 1;
+                (unit(kind), 0)
+            }
+        };
+        loop {
+            let possible = possible(kind, p, next < count);
+            if possible & wanted == 0 {
+                return End::Hazardous;
+            }
+            if possible.count_ones() == 1 {
+                let class = possible.trailing_zeros() as u8;
+                self.cells[signal] = Cell::Known(class);
+                return End::Known(class);
+            }
+            if let Some(row) = waiting {
+                let results = IMAGE[row][usize::from(possible)];
+                if results.count_ones() == 1 {
+                    self.cells[signal] = Cell::Unfinished { p, next };
+                    return End::Unfinished(results.trailing_zeros() as u8);
+                }
+            }
+            let pin = word(self.netlist, at + 2 + 2 * usize::from(next));
+            next += 1;
+            self.pins += 1;
+            p = match self.take(pin, kind, p, next < count, wanted) {
+                End::Hazardous => return End::Hazardous,
+                End::Known(class) => join(kind, p, class),
+                End::Unfinished(result) => result,
+            };
+        }
+    }
+
+    /// What stands behind a pin.
+    fn take(&mut self, pin: usize, kind: u8, p: u8, left_after: bool, wanted: u8) -> End {
+        if let Cell::Known(class) = self.cells[pin] {
+            return End::Known(class);
+        }
+        let behind = wanted_behind(kind, p, left_after, wanted);
+        self.visit(pin, behind, Some(row(kind, p)))
+    }
+}
+
+/// The class of a clean output, or none; gates and pins.
+pub type CoreAnswer = (Option<u8>, usize, usize);
+
+fn search(
+    netlist: &[u8],
+    card: &Card,
+    places: &[usize],
+    cells: &mut [Cell],
+    signal: usize,
+) -> CoreAnswer {
+    if let Cell::Known(class) = cells[signal] {
+        return (Some(class), 0, 0);
+    }
+    let mut search = Search {
+        netlist,
+        inputs: card.inputs,
+        places,
+        cells,
+        gates: 0,
+        pins: 0,
+    };
+    let class = match search.visit(signal, 0x0F, None) {
+        End::Known(class) => Some(class),
+        _ => None,
+    };
+    (class, search.gates, search.pins)
+}
+
+/// The places of an accepted netlist's records.
+pub fn places(netlist: &[u8], card: &Card) -> Vec<usize> {
+    let mut at = 11;
+    let mut places = Vec::with_capacity(card.gates);
+    for _ in 0..card.gates {
+        places.push(at);
+        at += 2 + 2 * usize::from(netlist[at + 1]);
+    }
+    places
+}
+
+/// Cells with the inputs known.
+fn cells(list: &[u8], card: &Card, change: usize) -> Vec<Cell> {
+    let width = card.inputs.div_ceil(8);
+    let mut cells = vec![Cell::New; card.inputs + card.gates];
+    for (input, cell) in cells[..card.inputs].iter_mut().enumerate() {
+        *cell = Cell::Known(input_class(list, width, change, input));
+    }
+    cells
+}
+
+pub fn output_signal(netlist: &[u8], card: &Card, output: usize) -> usize {
+    word(netlist, card.entries_at + 2 * output)
+}
+
+/// CORE on a card that was checked before.
+pub fn core_once(
+    netlist: &[u8],
+    list: &[u8],
+    card: &Card,
+    places: &[usize],
+    change: usize,
+    output: usize,
+) -> CoreAnswer {
+    let mut cells = cells(list, card, change);
+    let signal = output_signal(netlist, card, output);
+    search(netlist, card, places, &mut cells, signal)
+}
+
+pub fn core(
+    netlist: &[u8],
+    list: &[u8],
+    change: usize,
+    output: usize,
+) -> Result<CoreAnswer, Refused> {
+    let card = open(netlist, list, change)?;
+    if output >= card.outputs {
+        return Err((19, 0));
+    }
+    let places = places(netlist, &card);
+    let answer = core_once(netlist, list, &card, &places, change, output);
+    match answer.2 > card.pins {
+        true => Err((21, 0)),
+        false => Ok(answer),
+    }
+}
+
+// ---------------------------------------------------------------------------
+// The forward method.
+
+/// A gate's class where it follows from constant pins, and whether any pin is
+/// constant.
+fn constant(netlist: &[u8], at: usize, constants: &[Option<u8>]) -> (Option<u8>, bool) {
+    let kind = netlist[at];
+    let (deciding, other) = (1 - unit(kind), unit(kind));
+    let (mut decided, mut all, mut touched) = (false, true, false);
+    for pin in 0..usize::from(netlist[at + 1]) {
+        match constants[word(netlist, at + 2 + 2 * pin)] {
+            Some(class) => {
+                touched = true;
+                decided |= class == deciding;
+            }
+            None => all = false,
+        }
+    }
+    let class = match (decided, all) {
+        (true, _) => Some(deciding),
+        (false, true) => Some(other),
+        (false, false) => None,
+    };
+    let class = class.map(|class| if inverts(kind) { class ^ 1 } else { class });
+    (class, touched)
+}
+
+/// The forward method on a card that was checked before.
+pub fn forward_once(
+    netlist: &[u8],
+    list: &[u8],
+    card: &Card,
+    places: &[usize],
+    change: usize,
+    buffer: &mut [u8],
+) -> (usize, usize) {
+    let mut start = cells(list, card, change);
+    let mut constants = vec![None; start.len()];
+    for (input, cell) in start[..card.inputs].iter().enumerate() {
+        constants[input] = match cell {
+            Cell::Known(class) if *class < 2 => Some(*class),
+            _ => None,
+        };
+    }
+    let mut touched = 0;
+    for (gate, at) in places.iter().enumerate() {
+        let signal = card.inputs + gate;
+        let (class, is_touched) = constant(netlist, *at, &constants);
+        touched += usize::from(is_touched);
+        if let Some(class) = class {
+            constants[signal] = Some(class);
+            start[signal] = Cell::Known(class);
+        }
+    }
+    let mut visited = 0;
+    for (output, byte) in buffer[..card.outputs].iter_mut().enumerate() {
+        let mut cells = start.clone();
+        let signal = output_signal(netlist, card, output);
+        let (class, gates, _) = search(netlist, card, places, &mut cells, signal);
+        *byte = u8::from(class.is_none());
+        visited += gates;
+    }
+    (touched, visited)
+}
+
+pub fn forward(
+    netlist: &[u8],
+    list: &[u8],
+    change: usize,
+    buffer: &mut [u8],
+) -> Result<(usize, usize), Refused> {
+    let card = open(netlist, list, change)?;
+    if buffer.len() < card.outputs {
+        return Err((20, 0));
+    }
+    let places = places(netlist, &card);
+    Ok(forward_once(netlist, list, &card, &places, change, buffer))
+}
