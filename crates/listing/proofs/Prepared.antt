@@ -32,7 +32,7 @@ use Rattle.listing.specs.declared.Sizes.{Sizes}
 use Rattle.listing.specs.Listing.{texts, isClean, outputLine, changeLines}
 use Rattle.listing.specs.Lent.{sizesOf, lineFrom, Lined, Tabled}
 use Rattle.listing.proofs.Laws.{texts-high, texts-same, accepted}
-use Rattle.listing.proofs.Room.{line-high}
+use Rattle.report.proofs.Lengths.{verdict-length}
 
 module _ (n l : List ℕ) {sizes : Sizes} (sizes-are : sizes ≡ sizesOf (listChecked n l)) (change : ℕ) (early : change < sizes .changes) where
   -- the inputs' classes
@@ -106,7 +106,7 @@ module _ (n l : List ℕ) {sizes : Sizes} (sizes-are : sizes ≡ sizesOf (listCh
         arith,
         texts-high (outputLine n l change) 0 48 (outputsOf n)
             (λ k h.
-            line-high change (0 + k) _ _ _ _ (omega (arith, list-formed .changes-high)) (omega (arith, card-formed .outputs-are, card-formed .outputs-high))
+            verdict-length change (0 + k) _ _ _ _ (omega (arith, list-formed .changes-high)) (omega (arith, card-formed .outputs-are, card-formed .outputs-high))
             (omega (arith, gates-within n l is change (0 + k), pins-within n l is change (0 + k), card-formed .pins-high, card-formed .gates-high))
             (omega (arith, pins-within n l is change (0 + k), card-formed .pins-high, card-formed .gates-high))),
         card-formed .outputs-are,

@@ -34,27 +34,18 @@ pub struct Page {
     pub next: usize,
 }
 
-// Checks the card and its list, and writes the line of the counts, or of the refusal, at the buffer's start.
-pub fn put_head(netlist: &[u8], list: &[u8], buffer: &mut [u8]) -> Head
-    requires { ⌜ 64 ≤ length (now buffer) ⌝ }
-    ensures { λ r. ⌜ Headed (now (netlist .entry)) (now (list .entry)) (now (buffer .entry)) (now (buffer .exit)) r ⌝ }
+fn sizes_of(listed: Listed) -> Sizes
+    ensures { λ r. ⌜ r ≡ sizesOf listed ⌝ }
 {
-    let listed = changes::check(netlist, list);
     match listed {
-        Listed::Refused(number, place) => {
-            let length = report::put_refusal(buffer, 0, number, place);
-            Head {
-                length: length,
-                sizes: Sizes {
-                    inputs: 0,
-                    gates: 0,
-                    outputs: 0,
-                    entries: 0,
-                    changes: 0,
-                    width: 0,
-                },
-            }
-        }
+        Listed::Refused(_, _) => Sizes {
+            inputs: 0,
+            gates: 0,
+            outputs: 0,
+            entries: 0,
+            changes: 0,
+            width: 0,
+        },
         Listed::Accepted {
             inputs,
             gates,
@@ -63,20 +54,41 @@ pub fn put_head(netlist: &[u8], list: &[u8], buffer: &mut [u8]) -> Head
             entries,
             changes,
             width,
-        } => {
-            let length = report::put_counts(buffer, 0, inputs, gates, outputs, changes);
-            Head {
-                length: length,
-                sizes: Sizes {
-                    inputs: inputs,
-                    gates: gates,
-                    outputs: outputs,
-                    entries: entries,
-                    changes: changes,
-                    width: width,
-                },
-            }
-        }
+        } => Sizes {
+            inputs: inputs,
+            gates: gates,
+            outputs: outputs,
+            entries: entries,
+            changes: changes,
+            width: width,
+        },
+    }
+}
+
+// Checks the card and its list, and writes the line of the counts, or of the refusal, at the buffer's start.
+pub fn put_head(netlist: &[u8], list: &[u8], buffer: &mut [u8]) -> Head
+    requires { ⌜ 64 ≤ length (now buffer) ⌝ }
+    ensures { λ r. ⌜ Headed (now (netlist .entry)) (now (list .entry)) (now (buffer .entry)) (now (buffer .exit)) r ⌝ }
+{
+    let listed = changes::check(netlist, list);
+    let sizes = sizes_of(listed);
+    match listed {
+        Listed::Refused(number, place) => Head {
+            length: report::put_refusal(buffer, 0, number, place),
+            sizes: sizes,
+        },
+        Listed::Accepted {
+            inputs,
+            gates,
+            outputs,
+            pins: _,
+            entries: _,
+            changes,
+            width: _,
+        } => Head {
+            length: report::put_counts(buffer, 0, inputs, gates, outputs, changes),
+            sizes: sizes,
+        },
     }
 }
 
@@ -252,17 +264,15 @@ fn put_page(
         );
         change += 1;
         if change == sizes.changes {
-            return Page {
-                length: at,
-                next: change,
-            };
+            break;
         }
         if buffer.len() - at < ROOM {
-            return Page {
-                length: at,
-                next: change,
-            };
+            break;
         }
+    }
+    Page {
+        length: at,
+        next: change,
     }
 }
 

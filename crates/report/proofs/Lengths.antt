@@ -37,7 +37,7 @@ counts-length inputs gates outputs changes i g o t =
       decimal-length 3 changes (omega arith),
     )))
 
-pub verdict-length : (change output gates pins : ℕ) (k : Class) (clean : Bool) → change < 1000 → output < 64 → gates ≤ 2048 → pins ≤ 16384
+pub verdict-length : (change output gates pins : ℕ) (k : Class) (clean : Bool) → change < 1000 → output < 64 → gates ≤ 16385 → pins ≤ 16384
     → length (verdictLine change output k clean gates pins) ≤ 48
 unfolding verdictLine
 verdict-length change output gates pins k clean t o g p =
@@ -49,7 +49,7 @@ verdict-length change output gates pins k clean t o g p =
       decimal-length 1 output (omega arith),
       name-length k,
       word-length clean,
-      decimal-length 3 gates (omega arith),
+      decimal-length 4 gates (omega arith),
       decimal-length 4 pins (omega arith),
     )))
 

@@ -92,10 +92,10 @@ put-page-spec =
     loop-holds
     put-change-requires
     add-change
+    sub-if2
+    loop-less
+    loop-again
     same-length
     returns
-    sub-if2
     same-length-2
-    returns-2
-    loop-less
-    loop-again)
+    returns-2)
