@@ -39,7 +39,7 @@ first-then : (P : ℕ → Type 0) (n : ℕ) → P zero → ((k : ℕ) → k < n 
 first-then P n a r zero l = a
 first-then P n a r (suc k) l = r k (omega arith)
 
-least-some : (kind : ℕ) → 1 ≤ leastPins kind
+pub least-some : (kind : ℕ) → 1 ≤ leastPins kind
 unfolding leastPins
 least-some kind = go (leb kind 2)
   where
@@ -47,7 +47,7 @@ least-some kind = go (leb kind 2)
     go true = omega arith
     go false = omega arith
 
-most-eight : (kind : ℕ) → mostPins kind ≤ 8
+pub most-eight : (kind : ℕ) → mostPins kind ≤ 8
 unfolding mostPins
 most-eight kind = go (leb kind 2)
   where

@@ -1,4 +1,5 @@
 pub mod Laws
 pub mod Refusals
 pub mod Accepted
+pub mod Plain
 pub mod Proper

@@ -1,6 +1,7 @@
 -- Document 01, "The card netlist": what the bytes say, and, from "Turned back, by operation", when they are refused.
-use Prim.Native.Nat.{ℕ, zero, suc, _+_, _*_}
-use mathlib.Core.Bool.{Bool, cond, not}
+use Prim.Native.Nat.{ℕ, zero, suc, _+_, _-_, _*_, _≤_}
+use mathlib.Core.Path.{_≡_}
+use mathlib.Core.Bool.{Bool, cond, not, _||_}
 use mathlib.Core.List.{List, [], _∷_, _++_}
 use lib.Dec.{eqb, leb, ltb}
 use lib.ListN.{length}
@@ -122,6 +123,23 @@ recordAt s signal at next =
     (wordsBelow (countAt s at) s (at + 2) signal 8
     next))))
 
+-- how many of the n words from `at` on stand before the first that is not below the bound
+unfoldable pub leading : (n : ℕ) → List ℕ → (at bound : ℕ) → ℕ
+leading zero s at bound = 0
+leading (suc n) s at bound = cond (leb bound (wordAt s at)) 0 (suc (leading n s (at + 2) bound))
+
+-- no kind, or one that does not take so many pins
+unfoldable pub unfit : (kind count : ℕ) → Bool
+unfit kind count = noKind kind || outside (leastPins kind) (mostPins kind) count
+
+-- the pin count of a record that has room for eight pins and is not refused; 0 of any other
+unfoldable pub plainCount : List ℕ → (signal at : ℕ) → ℕ
+plainCount s signal at =
+    cond (ltb (length s) (at + 18)) 0
+    (cond (unfit (kindAt s at) (countAt s at)) 0
+    (cond (ltb (leading 8 s (at + 2) signal) (countAt s at)) 0
+    (countAt s at)))
+
 -- the n records from gate g's on; "the first bad pin ends the reading of all records"
 unfoldable pub recordsFrom : (n g : ℕ) → List ℕ → Checked → Checked
 recordsFrom zero g s next = next
@@ -141,6 +159,15 @@ accepted s = Accepted (inputsOf s) (gatesOf s) (outputsOf s) (pinTotal s) (entri
 -- what follows the counts
 unfoldable pub body : List ℕ → Checked
 body s = recordsFrom (gatesOf s) 0 s (outputs s (accepted s))
+
+-- gate `gate` is reached: its record's place, the pins below it, and what is left of the check
+pub record Reached (s : List ℕ) (gates gate at pins : ℕ) : Type 0 where
+  pub gate-high : gate ≤ gates
+  pub place-is : at ≡ placeOf s gate
+  pub pins-are : pins ≡ pinsBelow s gate
+  pub place-high : at ≤ length s + 11
+  pub pins-high : pins ≤ at
+  pub left : body s ≡ recordsFrom (gates - gate) gate s (outputs s (accepted s))
 
 -- A caller may keep fewer signals than document 01 allows (23, place 5). One that keeps 256 + 2,048 of them never meets this limit.
 unfoldable pub bodyWithin : (limit : ℕ) → List ℕ → Checked

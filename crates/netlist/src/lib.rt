@@ -4,8 +4,9 @@ ghost use mathlib.Core.List.{_++_};
 ghost use mathlib.Core.Bool.{cond};
 ghost use Prim.Native.Nat.{_+_, _*_, _≤_};
 ghost use lib.ListN.{length, drop};
-ghost use Rattle.netlist.specs.Words.{byteAt, wordAt, longAt, marked, outside, tieOf};
+ghost use Rattle.netlist.specs.Words.{byteAt, wordAt, longAt, marked, outside, sumAt, weightAt, tieFrom, tieOf};
 ghost use Rattle.netlist.specs.Netlist.{kindAt, countAt, pinAt, placeOf, placesOf, pinTotal, entriesAt};
+ghost use Rattle.netlist.specs.Netlist.{gatesOf, leading, unfit, plainCount, Reached};
 ghost use Rattle.netlist.specs.Netlist.{noKind, leastPins, mostPins, counts, outputs, accepted, body, bodyWithin, checked};
 
 // The answer of a check: the counts, the pins together and the place of the output entries, or the number and place of a refusal.
@@ -49,19 +50,61 @@ pub fn long_at(s: &[u8], at: usize) -> u32
     }
 }
 
-// The tie of a netlist, which binds a list of changes to it.
-pub fn tie(s: &[u8]) -> u32
-    ensures { λ r. ⌜ r ≡ tieOf (now (s .entry)) ⌝ }
+// The sum of the 64 bytes from a place on: what they add to the first sum of the tie.
+fn block_sum(s: &[u8], at: usize) -> u32
+    requires { ⌜ at + 64 ≤ length (now s) ⌝ }
+    ensures { λ r. ⌜ r ≡ sumAt 64 (now (s .entry)) at ⌝ }
 {
-    let mut a: u32 = 0;
-    let mut b: u32 = 0;
-    let mut i: usize = 0;
+    let mut sum: u32 = 0;
+    for k in 0..64 {
+        sum += s[at + k] as u32;
+    }
+    sum
+}
+
+// Their sum with the weights 64 to 1: what they add to the second, beside 64 times the first.
+fn block_weight(s: &[u8], at: usize) -> u32
+    requires { ⌜ at + 64 ≤ length (now s) ⌝ }
+    ensures { λ r. ⌜ r ≡ weightAt 64 (now (s .entry)) at ⌝ }
+{
+    let mut sum: u32 = 0;
+    for k in 0..64 {
+        sum += (64 - k) as u32 * s[at + k] as u32;
+    }
+    sum
+}
+
+// The tie from a place on, with the two sums of the bytes before.
+fn tie_from(s: &[u8], start: usize, first: u32, second: u32) -> u32
+    requires { ⌜ start ≤ length (now s) ⌝ }
+    ensures { λ r. ⌜ r ≡ tieFrom first second (drop start (now (s .entry))) ⌝ }
+{
+    let mut a = first;
+    let mut b = second;
+    let mut i = start;
     while i < s.len() {
         a = std::num::wrapping_add_u32(a, s[i] as u32);
         b = std::num::wrapping_add_u32(b, a);
         i += 1;
     }
     b
+}
+
+// The tie of a netlist, which binds a list of changes to it: by blocks of 64 bytes, whose own sums do not wait for each other.
+pub fn tie(s: &[u8]) -> u32
+    ensures { λ r. ⌜ r ≡ tieOf (now (s .entry)) ⌝ }
+{
+    let mut a: u32 = 0;
+    let mut b: u32 = 0;
+    let mut i: usize = 0;
+    while i + 64 <= s.len() {
+        let carried = (64 * (a as u64) % 4294967296) as u32;
+        b = std::num::wrapping_add_u32(b, carried);
+        b = std::num::wrapping_add_u32(b, block_weight(s, i));
+        a = std::num::wrapping_add_u32(a, block_sum(s, i));
+        i += 64;
+    }
+    tie_from(s, i, a, b)
 }
 
 // A word inside the bytes.
@@ -139,15 +182,93 @@ fn check_outputs(s: &[u8], pins: usize, at: usize) -> Checked
     }
 }
 
-// The check from the records on.
-fn check_records(s: &[u8]) -> Checked
-    ensures { λ r. ⌜ r ≡ body (now (s .entry)) ⌝ }
+// How many of the eight words from a place on stand before the first that is not below the bound. It goes from the last to the first, so
+// that no jump depends on a word.
+fn leading_below(s: &[u8], at: usize, bound: usize) -> usize
+    requires { ⌜ at + 16 ≤ length (now s) ⌝ }
+    ensures { λ r. ⌜ r ≡ leading 8 (now (s .entry)) at bound ⌝ }
+{
+    let mut first: usize = 8;
+    let mut k: usize = 8;
+    while 0 < k {
+        k -= 1;
+        if bound <= word_in(s, at + 2 * k) as usize {
+            first = k;
+        }
+    }
+    first
+}
+
+// Whether a byte is no kind, or a kind that does not take so many pins. No jump depends on which kind it is.
+pub fn is_unfit(kind: u8, count: usize) -> bool
+    ensures { λ r. ⌜ r ≡ unfit kind count ⌝ }
+{
+    if is_outside(1, 6, kind as usize) {
+        return true;
+    }
+    if is_outside(1, 8, count) {
+        return true;
+    }
+    (2 < kind) as u8 != (1 < count) as u8
+}
+
+// The pin count of a record that is not refused, where eight pins have room; else 0.
+fn plain_count(s: &[u8], signal: usize, at: usize) -> usize
+    requires { ⌜ at ≤ length (now s) + 11 ⌝ }
+    ensures { λ r. ⌜ r ≡ plainCount (now (s .entry)) signal at ⌝ }
+{
+    if s.len() < at + 18 {
+        return 0;
+    }
+    let second = at + 1;
+    let count = s[second] as usize;
+    if is_unfit(s[at], count) {
+        return 0;
+    }
+    if leading_below(s, at + 2, signal) < count {
+        return 0;
+    }
+    count
+}
+
+// A gate, its record's place and the pins below it.
+struct Passed {
+    gate: usize,
+    at: usize,
+    pins: usize,
+}
+
+// The records that are passed at once: those before the first that is refused or has no room for eight pins.
+fn pass_records(s: &[u8]) -> Passed
+    ensures { λ r. ⌜ Reached (now (s .entry)) (gatesOf (now (s .entry))) (r .gate) (r .at) (r .pins) ⌝ }
 {
     let inputs = word_at(s, 5) as usize;
     let gates = word_at(s, 7) as usize;
     let mut gate: usize = 0;
     let mut at: usize = 11;
     let mut pins: usize = 0;
+    while gate < gates {
+        let count = plain_count(s, inputs + gate, at);
+        if count == 0 {
+            return Passed { gate, at, pins };
+        }
+        pins += count;
+        at = at + 2 + 2 * count;
+        gate += 1;
+    }
+    Passed { gate, at, pins }
+}
+
+// The check from the records on.
+fn check_records(s: &[u8]) -> Checked
+    ensures { λ r. ⌜ r ≡ body (now (s .entry)) ⌝ }
+{
+    let inputs = word_at(s, 5) as usize;
+    let gates = word_at(s, 7) as usize;
+    let passed = pass_records(s);
+    let mut gate = passed.gate;
+    let mut at = passed.at;
+    let mut pins = passed.pins;
     'records: loop {
         if gate == gates {
             break 'records check_outputs(s, pins, at);

@@ -4,59 +4,40 @@ use native.Mathlib.Omega.{arith}
 use mathlib.Core.Path.{_≡_, refl}
 use mathlib.Core.Bool.{Bool, true, false, cond, not, _&&_, _||_}
 use mathlib.Core.List.{List}
-use borrow.Author.Tests.{lt-ltb, le-leb, lt-leb, leb-true, leb-false}
+use borrow.Author.Tests.{le-leb, lt-leb, leb-true, leb-false}
 use lib.Dec.{leb}
 use lib.ListN.{length}
-use Rattle.netlist.specs.Words.{outside}
-use Rattle.netlist.specs.Netlist.{kindAt, countAt, pastRecord, noKind, leastPins, mostPins}
+use Rattle.netlist.specs.Netlist.{kindAt, countAt, pastRecord, noKind, leastPins, mostPins, unfit}
 use Rattle.netlist.specs.Formed.{RecordFormed}
-use Rattle.netlist.proofs.Laws.{outside-below, outside-above, inside}
+use Rattle.netlist.proofs.Laws.{inside}
 use Rattle.walk.specs.declared.Found.the-variants.{Whole, Nothing}
-use Rattle.walk.specs.Walk.{permitted, whole, givesNone, foundAt}
-
--- the pin counts that a kind byte permits
-module _ (kind pins : ℕ) where
-  pub below-kinds : kind < 1 → permitted kind pins ≡ false
-  unfolding permitted noKind
-  below-kinds h = rw (outside-below 1 6 kind h)
-
-  pub above-kinds : 7 ≤ kind → permitted kind pins ≡ false
-  unfolding permitted noKind
-  above-kinds h = rw (outside-above 1 6 kind (omega arith), lt-ltb 6 kind (omega arith))
-
-  pub one-pin : 1 ≤ kind → kind < 3 → permitted kind pins ≡ not (outside 1 1 pins)
-  unfolding permitted noKind leastPins mostPins
-  one-pin l h = rw (inside 1 6 kind l (omega arith), le-leb kind 2 (omega arith))
-
-  pub many-pins : 3 ≤ kind → kind < 7 → permitted kind pins ≡ not (outside 2 8 pins)
-  unfolding permitted noKind leastPins mostPins
-  many-pins l h = rw (inside 1 6 kind (omega arith) (omega arith), lt-leb kind 2 (omega arith))
+use Rattle.walk.specs.Walk.{whole, givesNone, foundAt}
 
 module _ (n : List ℕ) (place : ℕ) where
   pub whole-cut : length n < pastRecord n place → whole n place ≡ false
   unfolding whole
-  whole-cut h = rw (lt-leb (pastRecord n place) (length n) h) (go (permitted (kindAt n place) (countAt n place)))
+  whole-cut h = rw (lt-leb (pastRecord n place) (length n) h) (go (not (unfit (kindAt n place) (countAt n place))))
     where
       go : (b : Bool) → b && false ≡ false
       go true = refl
       go false = refl
 
-  pub whole-refused : permitted (kindAt n place) (countAt n place) ≡ false → whole n place ≡ false
+  pub whole-refused : unfit (kindAt n place) (countAt n place) ≡ true → whole n place ≡ false
   unfolding whole
   whole-refused e = rw e
 
-  pub whole-is : permitted (kindAt n place) (countAt n place) ≡ true → pastRecord n place ≤ length n → whole n place ≡ true
+  pub whole-is : unfit (kindAt n place) (countAt n place) ≡ false → pastRecord n place ≤ length n → whole n place ≡ true
   unfolding whole
   whole-is e h = rw (e, le-leb (pastRecord n place) (length n) h)
 
   -- the check's records are whole
   pub whole-formed : RecordFormed n place → whole n place ≡ true
-  unfolding permitted noKind
+  unfolding unfit noKind
   whole-formed f = whole-is (rw (inside 1 6 (kindAt n place) (f .kind-low) (f .kind-high), inside (leastPins (kindAt n place)) (mostPins (kindAt n place)) (countAt n place) (f .count-low) (f .count-high))) (f .room)
 
   pub whole-room : whole n place ≡ true → pastRecord n place ≤ length n
   unfolding whole
-  whole-room e = leb-true (pastRecord n place) (length n) (go (permitted (kindAt n place) (countAt n place)) e)
+  whole-room e = leb-true (pastRecord n place) (length n) (go (not (unfit (kindAt n place) (countAt n place))) e)
     where
       go : (b : Bool) {d : Bool} → b && d ≡ true → d ≡ true
       go true h = h

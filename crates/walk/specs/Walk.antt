@@ -8,21 +8,16 @@ use lib.ListN.{length, take, drop}
 use denote.Ref.{RefT, now}
 use Rattle.netlist.specs.declared.Checked.{Checked}
 use Rattle.netlist.specs.declared.Checked.the-variants.{Accepted, Refused}
-use Rattle.netlist.specs.Words.{outside}
-use Rattle.netlist.specs.Netlist.{gatesOf, kindAt, countAt, pastRecord, placeOf, noKind, leastPins, mostPins, checked}
+use Rattle.netlist.specs.Netlist.{gatesOf, kindAt, countAt, pastRecord, placeOf, unfit, checked}
 use Rattle.walk.specs.declared.Walk.{Walk}
 use Rattle.walk.specs.declared.Opened.{Opened}
 use Rattle.walk.specs.declared.Reached.{Reached}
 use Rattle.walk.specs.declared.Found.{Found}
 use Rattle.walk.specs.declared.Found.the-variants.{Whole, Nothing}
 
--- "a kind and a pin count that the netlist's rules permit"
-unfoldable pub permitted : (kind pins : ℕ) → Bool
-permitted kind pins = not (noKind kind) && not (outside (leastPins kind) (mostPins kind) pins)
-
 -- "A whole record is a kind and a pin count that the netlist's rules permit and that many pins, all inside the netlist."
 unfoldable pub whole : List ℕ → (place : ℕ) → Bool
-whole n place = permitted (kindAt n place) (countAt n place) && leb (pastRecord n place) (length n)
+whole n place = not (unfit (kindAt n place) (countAt n place)) && leb (pastRecord n place) (length n)
 
 -- "It gives none exactly when all G records are handed back or no whole record can be read at its place."
 unfoldable pub givesNone : List ℕ → (number place count : ℕ) → Bool

@@ -1,7 +1,7 @@
 // The gate walk: it carries a lent netlist and hands back one gate record after the other. `record_at` does the reading, on plain
 // parameters; the functions over the struct take it apart and have no branch of their own.
 ghost use mathlib.Core.Path.{_≡_};
-ghost use Rattle.walk.specs.Walk.{permitted, foundAt, partOf, movedOf, handed, stepped, gatesIn, opened};
+ghost use Rattle.walk.specs.Walk.{foundAt, partOf, movedOf, handed, stepped, gatesIn, opened};
 use netlist::Checked;
 
 pub struct Walk<'a> {
@@ -29,17 +29,6 @@ pub struct Reached {
     pub place: usize,
 }
 
-// Whether the netlist's rules permit a kind byte and a pin count.
-fn is_permitted(kind: u8, pins: u8) -> bool
-    ensures { λ r. ⌜ r ≡ permitted kind pins ⌝ }
-{
-    match kind {
-        1..=2 => !netlist::is_outside(1, 1, pins as usize),
-        3..=6 => !netlist::is_outside(2, 8, pins as usize),
-        _ => false,
-    }
-}
-
 // The record that comes next, of `count`, where `number` are handed back. Any number and place may be asked for.
 pub fn record_at(netlist: &[u8], number: usize, place: usize, count: usize) -> Found
     ensures { λ r. ⌜ r ≡ foundAt (now (netlist .entry)) number place count ⌝ }
@@ -50,14 +39,15 @@ pub fn record_at(netlist: &[u8], number: usize, place: usize, count: usize) -> F
     if netlist.len() <= place {
         return Found::Nothing;
     }
-    let pins = netlist::byte_at(netlist, place + 1);
-    if is_permitted(netlist[place], pins) {
-        let size = 2 + 2 * (pins as usize);
-        if size <= netlist.len() - place {
-            return Found::Whole(place + size);
-        }
+    let pins = netlist::byte_at(netlist, place + 1) as usize;
+    if netlist::is_unfit(netlist[place], pins) {
+        return Found::Nothing;
     }
-    Found::Nothing
+    let size = 2 + 2 * pins;
+    if netlist.len() - place < size {
+        return Found::Nothing;
+    }
+    Found::Whole(place + size)
 }
 
 // Its bytes; no byte where there is none.

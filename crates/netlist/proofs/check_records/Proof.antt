@@ -1,15 +1,14 @@
 -- `check_records`: at each record, and in it at each pin, what is left of the check is the whole of what follows the counts. Assumes nothing.
 use Prim.Native.Nat.{ℕ, _+_, _-_, _*_, _≤_, _<_}
 use native.Mathlib.Omega.{arith}
-use native.Mathlib.Nat.{sub-zero}
-use mathlib.Core.Path.{_≡_, _∙_, refl, sym}
+use mathlib.Core.Path.{_≡_, _∙_, sym}
 use mathlib.Core.Bool.{false}
 use mathlib.Core.List.{List}
 use lib.Arith.{lt-of-le-ne}
 use lib.ListN.{length}
 use borrow.Author.Needs.{needs}
-use Rattle.netlist.specs.Netlist.{kindAt, countAt, placeOf, pinsBelow, noKind, leastPins, mostPins}
-use Rattle.netlist.specs.Netlist.{recordAt, recordsFrom, wordsBelow, outputs, accepted, body}
+use Rattle.netlist.specs.Netlist.{kindAt, countAt, noKind, leastPins, mostPins}
+use Rattle.netlist.specs.Netlist.{recordAt, recordsFrom, wordsBelow, outputs, accepted, body, Reached}
 use Rattle.netlist.specs.Words.{outside}
 use Rattle.netlist.specs.declared.Checked.{Checked}
 use Rattle.netlist.proofs.Laws.{most-none, most-some, place-next, pins-next}
@@ -17,15 +16,6 @@ use Rattle.netlist.proofs.Refusals.{words-stop, words-more, words-end, 
 use Rattle.netlist.proofs.Refusals.{record-bare, record-kind, record-count, record-cut, record-pins}
 use Rattle.netlist.proofs.check_records.Statement.{statement}
 use Rattle.netlist.proofs.check_records.Tie as tie
-
--- gate `gate` is reached: its record's place, the pins below it, and what is left of the check
-record Reached (s : List ℕ) (gates gate at pins : ℕ) : Type 0 where
-  gate-high : gate ≤ gates
-  place-is : at ≡ placeOf s gate
-  pins-are : pins ≡ pinsBelow s gate
-  place-high : at ≤ length s + 11
-  pins-high : pins ≤ at
-  left : body s ≡ recordsFrom (gates - gate) gate s (outputs s (accepted s))
 
 abbrev Inv-pins : tie.InvT-pins
 Inv-pins s inputs gates gate at pins second count end k₀ k =
@@ -42,13 +32,13 @@ abbrev μ-records : tie.MeasureT-records
 
 -- the bytes, and the counts that were read
 abbrev bytes : tie.At-records Inv-pins μ-pins Inv-records μ-records → List ℕ
-bytes a = a .before .before .before .before .args .s .now
+bytes a = a .before .before .before .before .before .args .s .now
 
 abbrev inputs : tie.At-records Inv-pins μ-pins Inv-records μ-records → ℕ
-inputs a = a .before .before .word-at .result
+inputs a = a .before .before .before .word-at .result
 
 abbrev gates : tie.At-records Inv-pins μ-pins Inv-records μ-records → ℕ
-gates a = a .before .word-at2 .result
+gates a = a .before .before .word-at2 .result
 
 -- what is left once the record is passed
 abbrev rest : tie.At-records Inv-pins μ-pins Inv-records μ-records → Checked
@@ -61,7 +51,7 @@ own c =
     let a = c .before in
     a .records .inv .left
     ∙ records-split (bytes a) (outputs (bytes a) (accepted (bytes a))) (inputs a) (gates a) (a .records .gate) (a .records .at)
-    (a .before .before .word-at .ensures) (a .records .inv .place-is) (lt-of-le-ne (a .records .inv .gate-high) (c .if1 .left))
+    (a .before .before .before .word-at .ensures) (a .records .inv .place-is) (lt-of-le-ne (a .records .inv .gate-high) (c .if1 .left))
 
 -- back from where the limits are known to where the record's first two bytes are
 abbrev two : tie.After-struct-known Inv-pins μ-pins Inv-records μ-records → tie.Else2 Inv-pins μ-pins Inv-records μ-records
@@ -96,16 +86,11 @@ word-at-requires-2 c κs = search needs
 cast-gates : tie.Need-cast-gates Inv-pins μ-pins Inv-records μ-records
 cast-gates c = search needs
 
+pass-records-requires : tie.Need-pass-records-requires Inv-pins μ-pins Inv-records μ-records
+pass-records-requires c κs = search needs
+
 records-holds : tie.Need-records-holds Inv-pins μ-pins Inv-records μ-records
-unfolding placeOf pinsBelow body
-records-holds c = record {
-  gate-high = search needs;
-  place-is = refl;
-  pins-are = refl;
-  place-high = search needs;
-  pins-high = search needs;
-  left = rw (c .word-at2 .ensures, sub-zero);
-}
+records-holds c = rw (c .before .word-at2 .ensures) (c .pass-records .ensures)
 
 check-outputs-requires : tie.Need-check-outputs-requires Inv-pins μ-pins Inv-records μ-records
 check-outputs-requires c κs = (cc, cc, c .before .records .inv .place-high)
@@ -232,6 +217,7 @@ check-records-spec =
     cast-inputs
     word-at-requires-2
     cast-gates
+    pass-records-requires
     records-holds
     check-outputs-requires
     add-if2

@@ -1,35 +1,50 @@
 -- `tie`: what is left of the tie is the whole tie. Assumes nothing.
-use Prim.Native.Nat.{_≤_, _-_}
+use Prim.Native.Nat.{_+_, _-_, _*_, _≤_, _<_}
 use native.Mathlib.Omega.{arith}
 use mathlib.Core.Path.{_≡_, _∙_, refl, sym}
 use lib.ListN.{length, drop}
-use Rattle.netlist.specs.Words.{tieFrom, tieOf}
-use Rattle.netlist.proofs.Laws.{tie-more, tie-end}
+use Rattle.netlist.specs.Words.{tieFrom, tieOf, weightAt}
+use Rattle.netlist.proofs.Laws.{tie-block, carried}
 use borrow.Author.Needs.{needs}
 use Rattle.netlist.proofs.tie.Statement.{statement}
 use Rattle.netlist.proofs.tie.Tie as tie
 
 abbrev Inv-loop : tie.InvT-loop
-Inv-loop s a₀ b₀ i₀ a b i = (i ≤ length s) × (tieOf s ≡ tieFrom a b (drop i s))
+Inv-loop s a₀ b₀ i₀ a b i = (i ≤ length s) × (a < 4294967296) × (b < 4294967296) × (tieOf s ≡ tieFrom a b (drop i s))
 
 abbrev μ-loop : tie.MeasureT-loop
 μ-loop s a₀ b₀ i₀ a b i = length s - i
 
 loop-holds : tie.Need-loop-holds Inv-loop μ-loop
 unfolding tieOf
-loop-holds c = (search needs, refl)
+loop-holds c = (search needs, search needs, search needs, refl)
 
-shared-slice-read-wrapping-add-u32 : tie.Need-shared-slice-read-wrapping-add-u32 Inv-loop μ-loop
-shared-slice-read-wrapping-add-u32 c = search needs
+add-loop : tie.Need-add-loop Inv-loop μ-loop
+add-loop c = search needs
 
-cast-wrapping-add-u32 : tie.Need-cast-wrapping-add-u32 Inv-loop μ-loop
-cast-wrapping-add-u32 c = omega (arith, c .shared-slice-known2 .given (c .before .before .loop .i))
+cast-carried : tie.Need-cast-carried Inv-loop μ-loop
+cast-carried c = search needs
+
+mul-carried : tie.Need-mul-carried Inv-loop μ-loop
+mul-carried c = search needs
+
+cast-carried-2 : tie.Need-cast-carried-2 Inv-loop μ-loop
+cast-carried-2 c = search needs
 
 wrapping-add-u32-requires : tie.Need-wrapping-add-u32-requires Inv-loop μ-loop
 wrapping-add-u32-requires c κs = search needs
 
+block-weight-requires : tie.Need-block-weight-requires Inv-loop μ-loop
+block-weight-requires c κs = search needs
+
 wrapping-add-u32-requires-2 : tie.Need-wrapping-add-u32-requires-2 Inv-loop μ-loop
 wrapping-add-u32-requires-2 c κs = search needs
+
+block-sum-requires : tie.Need-block-sum-requires Inv-loop μ-loop
+block-sum-requires c κs = search needs
+
+wrapping-add-u32-requires-3 : tie.Need-wrapping-add-u32-requires-3 Inv-loop μ-loop
+wrapping-add-u32-requires-3 c κs = search needs
 
 add-i : tie.Need-add-i Inv-loop μ-loop
 add-i c = search needs
@@ -39,11 +54,16 @@ loop-less c = search needs
 
 loop-again : tie.Need-loop-again Inv-loop μ-loop
 loop-again c =
-    let at = c .before .before .before .before in
-    (search needs, cc (tie-more (at .loop .a) (at .loop .b) (at .before .before .args .s .now) (at .loop .i) (c .before .before .before .loop-test .taken)))
+    let l = c .before .before .before .before .before .before in
+    let e = l .loop .inv .3 ∙ tie-block 64 (l .loop .a) (l .loop .b) (l .before .before .args .s .now) (l .loop .i) (search needs) (search needs) (search needs) in
+    let d = carried (l .loop .b) (64 * l .loop .a) (weightAt 64 (l .before .before .args .s .now) (l .loop .i)) in
+    (search needs, omega (arith, c .wrapping-add-u323 .ensures), omega (arith, c .before .before .wrapping-add-u322 .ensures), cc (e, d))
+
+tie-from-requires : tie.Need-tie-from-requires Inv-loop μ-loop
+tie-from-requires c κs = search needs
 
 returns : tie.Need-returns Inv-loop μ-loop
-returns c = let at = c .before in sym (at .loop .inv .1 ∙ tie-end (at .loop .a) (at .loop .b) (at .before .before .args .s .now) (at .loop .i) (omega arith))
+returns c = c .tie-from .ensures ∙ sym (c .before .before .loop .inv .3)
 
 pub tie-spec : {M : Type 1} → statement M
 tie-spec =
@@ -52,11 +72,17 @@ tie-spec =
     Inv-loop
     μ-loop
     loop-holds
-    shared-slice-read-wrapping-add-u32
-    cast-wrapping-add-u32
+    add-loop
+    cast-carried
+    mul-carried
+    cast-carried-2
     wrapping-add-u32-requires
+    block-weight-requires
     wrapping-add-u32-requires-2
+    block-sum-requires
+    wrapping-add-u32-requires-3
     add-i
     loop-less
     loop-again
+    tie-from-requires
     returns)

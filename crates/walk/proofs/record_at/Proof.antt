@@ -4,8 +4,7 @@ use mathlib.Core.Bool.{Bool, true, false}
 use native.Mathlib.Omega.{arith}
 use borrow.Author.Needs.{needs}
 use denote.Ref.{now}
-use Rattle.netlist.specs.Netlist.{kindAt, countAt}
-use Rattle.walk.specs.Walk.{permitted}
+use Rattle.netlist.specs.Netlist.{kindAt, countAt, unfit}
 use Rattle.walk.specs.declared.Found.the-variants.{Whole}
 use Rattle.walk.proofs.Laws.{whole-cut, whole-refused, whole-is, found-none, found-no-record, found-record}
 use Rattle.walk.proofs.record_at.Statement.{statement}
@@ -23,14 +22,22 @@ add-byte-at c = search needs
 byte-at-requires : tie.Need-byte-at-requires
 byte-at-requires c κs = search needs
 
-shared-slice-read-is-permitted : tie.Need-shared-slice-read-is-permitted
-shared-slice-read-is-permitted c = search needs
+cast-pins : tie.Need-cast-pins
+cast-pins c = search needs
 
-is-permitted-requires : tie.Need-is-permitted-requires
-is-permitted-requires c κs = search needs
+shared-slice-read-is-unfit : tie.Need-shared-slice-read-is-unfit
+shared-slice-read-is-unfit c = search needs
 
-cast-size : tie.Need-cast-size
-cast-size c = search needs
+is-unfit-requires : tie.Need-is-unfit-requires
+is-unfit-requires c κs = search needs
+
+-- what the call was asked is the record's kind and pin count
+asked : (c : tie.After-is-unfit) (b : Bool) → c .is-unfit .result ≡ b
+    → let a = c .before .before .before .before .before .before .args in unfit (kindAt (now (a .netlist)) (a .place)) (countAt (now (a .netlist)) (a .place)) ≡ b
+asked c b e = sym (c .is-unfit .ensures ∙ ap (unfit _) (c .before .before .byte-at .ensures)) ∙ e
+
+returns-3 : tie.Need-returns-3
+returns-3 c = found-no-record _ _ _ _ (whole-refused _ _ (asked (c .before) true (c .if3 .taken)))
 
 mul-size : tie.Need-mul-size
 mul-size c = search needs
@@ -41,24 +48,17 @@ add-size c = search needs
 sub-if4 : tie.Need-sub-if4
 sub-if4 c = search needs
 
-add-t15 : tie.Need-add-t15
-add-t15 c = search needs
-
--- what the call was asked is the record's kind and pin count
-asked : (c : tie.After-is-permitted) (b : Bool) → c .is-permitted .result ≡ b
-    → permitted (kindAt (now (c .before .before .before .before .before .before .args .netlist)) (c .before .before .before .before .before .before .args .place))
-    (countAt (now (c .before .before .before .before .before .before .args .netlist)) (c .before .before .before .before .before .before .args .place))
-    ≡ b
-asked c b e = sym (c .is-permitted .ensures ∙ ap (permitted _) (c .before .before .byte-at .ensures)) ∙ e
-
-returns-3 : tie.Need-returns-3
-returns-3 c = ap Whole (omega (arith, c .before .before .before .before .byte-at .ensures)) ∙ found-record _ _ _ _ (omega arith) (whole-is _ _ (asked (c .before .before) true (c .before .if3 .taken)) (omega (arith, c .before .before .before .before .byte-at .ensures)))
-
 returns-4 : tie.Need-returns-4
 returns-4 c = found-no-record _ _ _ _ (whole-cut _ _ (omega (arith, c .before .before .before .before .byte-at .ensures)))
 
+add-t8 : tie.Need-add-t8
+add-t8 c = search needs
+
 returns-5 : tie.Need-returns-5
-returns-5 c = found-no-record _ _ _ _ (whole-refused _ _ (asked (c .before) false (c .if3 .left)))
+returns-5 c =
+    let counted = c .before .before .before .before .byte-at .ensures in
+    ap Whole (omega (arith, counted))
+    ∙ found-record _ _ _ _ (omega arith) (whole-is _ _ (asked (c .before .before) false (c .before .if3 .left)) (omega (arith, counted)))
 
 pub record-at-spec : {M : Type 1} → statement M
 record-at-spec =
@@ -68,13 +68,13 @@ record-at-spec =
     returns-2
     add-byte-at
     byte-at-requires
-    shared-slice-read-is-permitted
-    is-permitted-requires
-    cast-size
+    cast-pins
+    shared-slice-read-is-unfit
+    is-unfit-requires
+    returns-3
     mul-size
     add-size
     sub-if4
-    add-t15
-    returns-3
     returns-4
+    add-t8
     returns-5)
