@@ -134,6 +134,7 @@ ready {images} {wanteds} {known} {inputs} {gates} netlist places rest i w formed
       indexed = record { inputs-are = formed .inputs-are; gates-only = only; placed = placed };
       few-signals = omega (arith, formed .inputs-are, formed .gates-are, formed .inputs-high, formed .gates-high);
       few-pins = λ g h. formed .records g (omega (arith, formed .gates-are)) .count-eight;
+      inside = λ g h. formed .records g (omega (arith, formed .gates-are)) .room;
       well-formed = formed .well-formed;
     }
   where

@@ -36,14 +36,13 @@ take-replicate (suc g) zero a h = absurd (omega arith)
 take-replicate (suc g) (suc m) a h = ap (λ l. a ∷ l) (take-replicate g m a (omega arith))
 
 -- the bytes that the search is lent: the inputs' classes are known, and no gate
-pub known-is : {i g o p e : ℕ} (n l : List ℕ) (w t : ℕ) → Formed n i g o p e → w ≡ widthOf i → (filled : List ℕ)
-    → filled ≡ inputCodes l w t i ++ drop i (replicate 2304 8) → take (i + g) filled ≡ inputsKnown n (inputClassAt l (widthOf (inputsOf n)) t)
-known-is {i} {g} n l w t f wide filled e =
+pub known-is : {i g o p e : ℕ} (n l : List ℕ) (w t : ℕ) → Formed n i g o p e → w ≡ widthOf i → (m : ℕ) → i + g ≤ m → (filled : List ℕ)
+    → filled ≡ inputCodes l w t i ++ drop i (replicate m 8) → take (i + g) filled ≡ inputsKnown n (inputClassAt l (widthOf (inputsOf n)) t)
+known-is {i} {g} n l w t f wide m room filled e =
     let codes = inputCodes l w t i in
     ap₂ take (ap (λ k. k + g) (sym (tab-length (codeAt l w t) 0 i))) e
-    ∙ take-append-add codes (drop i (replicate 2304 8)) g
-    ∙ ap (λ x. codes ++ x)
-    (ap (take g) (drop-replicate i 2304 8) ∙ take-replicate g (2304 - i) 8 (omega (arith, f .inputs-high, f .gates-high)))
+    ∙ take-append-add codes (drop i (replicate m 8)) g
+    ∙ ap (λ x. codes ++ x) (ap (take g) (drop-replicate i m 8) ∙ take-replicate g (m - i) 8 (omega arith))
     ∙ (λ k. inputCodes l ((wide ∙ ap widthOf (f .inputs-are)) k) t (f .inputs-are k) ++ replicate (f .gates-are k) 8)
 
 -- and it has a byte for each signal

@@ -7,3 +7,4 @@ mod Searches
 pub mod Cards
 pub mod Entry
 pub mod Theorems
+pub mod Outputs

@@ -2,7 +2,7 @@
 use Prim.Native.Nat.{ℕ, zero, suc, _+_, _%_, _≤_, _<_}
 use native.Mathlib.Omega.{arith}
 use native.Mathlib.Numerals.{add-one}
-use mathlib.Core.Path.{_≡_, refl, sym, _∙_, ap}
+use mathlib.Core.Path.{_≡_, refl, sym, _∙_, ap, ap₂}
 use mathlib.Core.Bool.{Bool, true, false, cond}
 use mathlib.Core.List.{List}
 use mathlib.Core.Option.{Option, none, some}
@@ -206,24 +206,36 @@ behind-searched netlist codes x cells from first byte h = go (ltb (getD codes x 
       seen (only (possibleOf (kindFrom netlist x) (ofCode (getD cells x 0)) (drop (nextOf (getD cells x 0)) (pinsFrom netlist x)))) (ofCode (getD cells x 0)) h,
     )
 
--- Pin `next` of signal s is on signal x, and counts as taken. Its gate waits, and the gate behind the pin has a wanted set.
-module _ (netlist known : List ℕ) (s p next w : ℕ) (entry : List ℕ) (x wanted waiter : ℕ) (cells : List ℕ) (on : x ≡ getD (pinsFrom netlist s) next 0)
-    (wants : wanted ≡ wantedFor (opOf (kindFrom netlist s)) (inverts (kindFrom netlist s)) (ofCode p) (ltb (next + 1) (countFrom netlist s)) w)
-    (waiting : waitingOf waiter ≡ waits (opOf (kindFrom netlist s)) (ofCode p)) (counted : cells ≡ put entry s (kept (ofCode p) (next + 1))) where
+-- Pin `next` of signal s is on signal x, and counts as taken. Its gate waits, and a gate behind the pin has a wanted set.
+module _ (netlist known : List ℕ) (s p next w : ℕ) (entry : List ℕ) (x : ℕ) (cells : List ℕ) (on : x ≡ getD (pinsFrom netlist s) next 0)
+    (counted : cells ≡ put entry s (kept (ofCode p) (next + 1))) where
   abbrev Driven : Driver
   Driven = driverOf (sourceFrom netlist known x) (cellAt cells x)
 
+  abbrev Wants : ℕ
+  Wants = wantedFor (opOf (kindFrom netlist s)) (inverts (kindFrom netlist s)) (ofCode p) (ltb (next + 1) (countFrom netlist s)) w
+
+  abbrev Waits : Waiting
+  Waits = waits (opOf (kindFrom netlist s)) (ofCode p)
+
   fetched : (n : ℕ)
-      → fetch (visit (sourceFrom netlist known) n) x Driven wanted (waitingOf waiter) cells
+      → fetch (visit (sourceFrom netlist known) n) x Driven Wants Waits cells
       ≡ takeNext (sourceFrom netlist known) (visit (sourceFrom netlist known) n) (kindFrom netlist s) (pinsFrom netlist s) s (ofCode p) next w entry
   unfolding takeNext takePin
   fetched n =
-      rw (waiting, wants, on, counted, add-one next, left-is (suc next) (pinsFrom netlist s), words-length (countFrom netlist s) netlist (placeFrom netlist s + 2))
+      rw (on, counted, add-one next, left-is (suc next) (pinsFrom netlist s), words-length (countFrom netlist s) netlist (placeFrom netlist s + 2))
 
   pub takes-told : (k : ℕ) → Told k ≡ driverCode Driven → Takes netlist known s p next w entry cells k
   takes-told k h = record { is = λ n less. fetch-told _ _ _ _ _ Driven k h ∙ ap endedOf (fetched n) }
 
-  pub takes-behind : (from first : ℕ) → Behind from first ≡ driverCode Driven → x < s → (exit : List ℕ) (r : ℕ)
-      → Visits netlist known x from first wanted waiter cells exit r → Takes netlist known s p next w entry exit r
-  takes-behind from first h below exit r visits =
-      record { is = λ n less. visits .is n (omega arith) ∙ ap endedOf (fetch-behind _ _ _ _ _ Driven from first h ∙ fetched n) }
+  pub takes-behind : (from first : ℕ) → Behind from first ≡ driverCode Driven → x < s → (wanted waiter : ℕ) → wanted ≡ Wants → waitingOf waiter ≡ Waits
+      → (exit : List ℕ) (r : ℕ) → Visits netlist known x from first wanted waiter cells exit r → Takes netlist known s p next w entry exit r
+  takes-behind from first h below wanted waiter wants waiting exit r visits =
+      record {
+        is = λ n less.
+            visits .is n (omega arith)
+            ∙ ap endedOf
+            (fetch-behind _ _ _ _ _ Driven from first h
+            ∙ ap₂ (λ u v. fetch (visit (sourceFrom netlist known) n) x Driven u v cells) wants waiting
+            ∙ fetched n);
+      }

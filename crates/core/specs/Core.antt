@@ -4,6 +4,7 @@ use mathlib.Core.Path.{_≡_}
 use mathlib.Core.Bool.{Bool, cond}
 use mathlib.Core.List.{List}
 use lib.Dec.{leb, ltb}
+use lib.ListN.{length, replicate}
 use Rattle.kung.specs.Class.{code}
 use Rattle.kung.specs.Sets.{cleanSet}
 use Rattle.netlist.specs.Netlist.{outputAt}
@@ -54,6 +55,13 @@ pub record Searchable (netlist : List ℕ) (inputs gates width change s : ℕ) :
   pub width-is : width ≡ widthOf inputs
   pub width-high : width ≤ 32
   pub change-high : change ≤ 1000
+
+-- room for a card's places, classes and cells: no class is known at first
+pub record Room (places known cells : List ℕ) (inputs gates : ℕ) : Type 0 where
+  pub placed : gates ≤ length places
+  pub none-known : known ≡ replicate (length known) 8
+  pub told : inputs + gates ≤ length known
+  pub celled : inputs + gates ≤ length cells
 
 -- "CORE: the list's, 18, output not below O 19"
 unfoldable pub judgedBy : Listed → (change output : ℕ) → Answer → Cored

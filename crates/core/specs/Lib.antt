@@ -1,3 +1,4 @@
 pub mod Source
 pub mod Found
 pub mod Core
+pub mod Outputs

@@ -10,7 +10,7 @@ use Rattle.kung.specs.Rule.{Kind, kindOf}
 use Rattle.kung.specs.Tables.{tab, imageTable, wantedTable}
 use Rattle.circuit.specs.Circuit.{Source, given, gate, WellFormed}
 use Rattle.netlist.specs.Words.{wordsAt}
-use Rattle.netlist.specs.Netlist.{inputsOf, gatesOf, kindAt, countAt, placeOf, gateKind, gatePins, cardOf}
+use Rattle.netlist.specs.Netlist.{inputsOf, gatesOf, kindAt, countAt, pastRecord, placeOf, gateKind, gatePins, cardOf}
 
 -- the gate of signal s: the place of its record, its kind and its pins
 abbrev pub placeFrom : (netlist : List ℕ) (s : ℕ) → ℕ
@@ -55,4 +55,5 @@ pub record Ready (images wanteds netlist places known : List ℕ) (inputs : ℕ)
   pub indexed : Indexed netlist places known inputs
   pub few-signals : inputsOf netlist + gatesOf netlist ≤ 2304
   pub few-pins : (g : ℕ) → g < gatesOf netlist → countAt netlist (placeOf netlist g) ≤ 8
+  pub inside : (g : ℕ) → g < gatesOf netlist → pastRecord netlist (placeOf netlist g) ≤ length netlist
   pub well-formed : WellFormed (cardOf netlist)

@@ -1,6 +1,6 @@
 // CORE: the search of one output.
 ghost use mathlib.Core.Path.{_≡_};
-ghost use Prim.Native.Nat.{_+_, _-_, _≤_, _<_};
+ghost use Prim.Native.Nat.{_+_, _-_, _*_, _≤_, _<_};
 ghost use lib.Dec.{ltb};
 ghost use lib.ListN.{length, getD};
 ghost use Rattle.kung.specs.Class.{code, ofCode};
@@ -8,13 +8,14 @@ ghost use Rattle.kung.specs.Rule.{kindOf};
 ghost use Rattle.kung.specs.Operation.{opCode, opOf, inverts, unit};
 ghost use Rattle.kung.specs.Sets.{has, possible, wantedFor};
 ghost use Rattle.kung.specs.Tables.{imageTable, wantedTable};
-ghost use Rattle.netlist.specs.Netlist.{kindAt, countAt};
+ghost use Rattle.netlist.specs.Netlist.{kindAt, countAt, pinAt};
 ghost use Rattle.search.specs.Search.{kept, cellOf, cellAt, put, fresh, sameResult, waits, driverOf, checks, judged, visitedOf, nextOf, total, search};
 ghost use Rattle.core.specs.Source.{gateAt, sourceFrom, countFrom, Indexed, Ready};
 ghost use Rattle.kung.specs.Sets.{cleanSet};
-ghost use Rattle.changes.specs.Changes.{sourcesOf};
-ghost use Rattle.core.specs.Core.{Searchable, guardedFound, coreAnswer};
+ghost use Rattle.changes.specs.Changes.{sourcesOf, written};
+ghost use Rattle.core.specs.Core.{Room, Searchable, guardedFound, coreAnswer};
 ghost use Rattle.core.specs.Found.{waitingOf, codeOr, checkOf, carriedFrom, driverCode, verdictCode, verdictFrom, foundOf, Visits, Takes};
+ghost use Rattle.core.specs.Outputs.{byteOf, byteFrom, sumFrom, OutputsReady};
 use changes::Listed;
 use kung::image_of;
 use kung::joined;
@@ -23,7 +24,7 @@ use kung::possible_set;
 use kung::wanted_set;
 use netlist::count_at;
 use netlist::kind_at;
-use netlist::pin_at;
+use netlist::word_in;
 
 // How a visit ends, as a number: the class of a gate that is known, UNFINISHED and the result that the waiting gate takes, or STOPPED.
 const UNFINISHED: u8 = 8;
@@ -35,6 +36,9 @@ const GOES_ON: u8 = 17;
 
 // No gate waits for the output's.
 const NOBODY: u8 = 16;
+
+// An output's wanted set {0, 1, R, F}.
+pub const CLEAN_SET: u8 = 15;
 
 // What stands behind a pin: a class, or a gate to visit.
 enum Driver {
@@ -148,15 +152,16 @@ fn place_of(places: &[u16], inputs: usize, s: usize) -> u16
     places[gate]
 }
 
+// Pin `next` of the record at a place, whose pins are inside the netlist.
+fn pin_in(netlist: &[u8], place: u16, next: u8) -> usize
+    requires { ⌜ place + 4 + 2 * next ≤ length (now netlist) ⌝ }
+    ensures { λ r. ⌜ r ≡ pinAt (now (netlist .entry)) place next ⌝ }
+{
+    word_in(netlist, place as usize + 2 + 2 * (next as usize)) as usize
+}
+
 // The wanted set of the gate behind pin `next`.
-fn wanted_behind(
-    wanteds: &[u8; 4608],
-    netlist: &[u8],
-    place: u16,
-    p: u8,
-    next: u8,
-    wanted: u8,
-) -> u8
+fn wanted_behind(wanteds: &[u8; 576], netlist: &[u8], place: u16, p: u8, next: u8, wanted: u8) -> u8
     requires { ⌜ (now wanteds ≡ wantedTable) × (next < 255) ⌝ }
     ensures { λ r. ⌜ r ≡ wantedFor (opOf (kindOf (kindAt (now (netlist .entry)) place))) (inverts (kindOf (kindAt (now (netlist .entry)) place))) (ofCode p) (ltb (next + 1) (countAt (now (netlist .entry)) place)) wanted ⌝ }
 {
@@ -228,7 +233,7 @@ fn driver_at(
 // A visit of signal s, whose gate starts from p `from` and pin `first`: its pins are taken in turn, until the checks end the visit.
 fn visit(
     images: &[u8; 4096],
-    wanteds: &[u8; 4608],
+    wanteds: &[u8; 576],
     netlist: &[u8],
     places: &[u16],
     known: &[u8],
@@ -280,7 +285,7 @@ fn visit(
 // Pin `next` of signal s's gate is taken, which counts at once: the gate behind it is visited, unless its class is known.
 fn take(
     images: &[u8; 4096],
-    wanteds: &[u8; 4608],
+    wanteds: &[u8; 576],
     netlist: &[u8],
     places: &[u16],
     known: &[u8],
@@ -296,9 +301,7 @@ fn take(
     ensures { λ r. ⌜ Takes (now (netlist .entry)) (now (known .entry)) s p next wanted (now (cells .entry)) (now (cells .exit)) r ⌝ }
 {
     let place = place_of(places, inputs, s);
-    let waiter = waiter_of(kind_at(netlist, place), p);
-    let behind = wanted_behind(wanteds, netlist, place, p, next, wanted);
-    let x = pin_at(netlist, place, next) as usize;
+    let x = pin_in(netlist, place, next);
     keep(cells, s, p, next + 1);
     let driver = driver_at(images, netlist, places, known, cells, inputs, x);
     match driver {
@@ -317,16 +320,16 @@ fn take(
             x,
             from,
             first,
-            behind,
-            waiter,
+            wanted_behind(wanteds, netlist, place, p, next, wanted),
+            waiter_of(kind_at(netlist, place), p),
         ),
     }
 }
 
-// Gates visited and pins taken, of one cell and of all.
-struct Counts {
-    gates: usize,
-    pins: usize,
+// Gates visited and pins taken.
+pub struct Counts {
+    pub gates: usize,
+    pub pins: usize,
 }
 
 fn visited_in(cell: u8) -> u16
@@ -412,7 +415,7 @@ fn verdict_of(ending: u8) -> Verdict
 // The search of signal s. Each call starts afresh: the cells are lent room, whatever they hold.
 pub fn find(
     images: &[u8; 4096],
-    wanteds: &[u8; 4608],
+    wanteds: &[u8; 576],
     netlist: &[u8],
     places: &[u16],
     known: &[u8],
@@ -458,6 +461,56 @@ pub fn find(
     }
 }
 
+// An output's byte.
+fn byte_of(verdict: Verdict) -> u8
+    ensures { λ r. ⌜ r ≡ byteOf verdict ⌝ }
+{
+    match verdict {
+        Verdict::Clean { class: _ } => 0,
+        Verdict::Hazardous => 1,
+    }
+}
+
+// Searches each output afresh and writes its byte; returns the gates visited and pins taken in all searches. The cells are lent room, as for `find`.
+pub fn search_outputs(
+    images: &[u8; 4096],
+    wanteds: &[u8; 576],
+    netlist: &[u8],
+    places: &[u16],
+    known: &[u8],
+    cells: &mut [u8],
+    inputs: usize,
+    outputs: usize,
+    entries: usize,
+    buffer: &mut [u8],
+) -> Counts
+    requires { ⌜ OutputsReady (now images) (now wanteds) (now netlist) (now places) (now known) inputs outputs entries (length (now buffer)) ⌝ }
+    requires { ⌜ length (now known) ≤ length (now cells) ⌝ }
+    ensures { λ r. ⌜ (r .gates ≡ sumFrom (λ a. a .gates) (now (netlist .entry)) (now (known .entry)) entries outputs) × (r .pins ≡ sumFrom (λ a. a .pins) (now (netlist .entry)) (now (known .entry)) entries outputs) × (now (buffer .exit) ≡ written (now (buffer .entry)) 0 (byteFrom (now (netlist .entry)) (now (known .entry)) entries) outputs) ⌝ }
+{
+    let mut gates: usize = 0;
+    let mut pins: usize = 0;
+    for output in 0..outputs {
+        let signal = netlist::entry_at(netlist, entries, output) as usize;
+        let found = find(
+            images,
+            wanteds,
+            netlist,
+            places,
+            known,
+            cells,
+            inputs,
+            CLEAN_SET,
+            signal,
+        );
+        let verdict = found.verdict;
+        buffer[output] = byte_of(verdict);
+        gates += found.gates;
+        pins += found.pins;
+    }
+    Counts { gates, pins }
+}
+
 // The answer of CORE: clean with the class, or hazardous, with gates and pins; or a refusal of document 01.
 pub enum Cored {
     Clean {
@@ -472,7 +525,42 @@ pub enum Cored {
     Refused(u8, usize),
 }
 
-// The search of a signal in a change of an accepted list, without a check.
+// The search of a signal in a change of an accepted list, without a check, in lent room.
+fn search_in(
+    places: &mut [u16],
+    known: &mut [u8],
+    cells: &mut [u8],
+    netlist: &[u8],
+    list: &[u8],
+    inputs: usize,
+    gates: usize,
+    width: usize,
+    change: usize,
+    s: usize,
+) -> Found
+    requires { ⌜ Room (now places) (now known) (now cells) inputs gates ⌝ }
+    requires { ⌜ Searchable (now netlist) inputs gates width change s ⌝ }
+    ensures { λ r. ⌜ r ≡ foundOf (search (sourcesOf (now (netlist .entry)) (now (list .entry)) change) cleanSet s) ⌝ }
+{
+    let images = kung::images();
+    let wanteds = kung::wanted_table();
+    netlist::fill_places(netlist, places, gates);
+    changes::fill_inputs(list, width, change, inputs, known);
+    let signals = inputs + gates;
+    find(
+        &images,
+        &wanteds,
+        netlist,
+        places,
+        &known[..signals],
+        cells,
+        inputs,
+        CLEAN_SET,
+        s,
+    )
+}
+
+// The same, in room for a small card or for the largest: clearing room takes longer than a small card's search.
 fn search_signal(
     netlist: &[u8],
     list: &[u8],
@@ -485,23 +573,36 @@ fn search_signal(
     requires { ⌜ Searchable (now netlist) inputs gates width change s ⌝ }
     ensures { λ r. ⌜ r ≡ foundOf (search (sourcesOf (now (netlist .entry)) (now (list .entry)) change) cleanSet s) ⌝ }
 {
-    let images = kung::images();
-    let wanteds = kung::wanted_table();
+    if inputs + gates <= 128 {
+        let mut places = [0u16; 128];
+        let mut known = [8u8; 128];
+        let mut cells = [0u8; 128];
+        return search_in(
+            &mut places,
+            &mut known,
+            &mut cells,
+            netlist,
+            list,
+            inputs,
+            gates,
+            width,
+            change,
+            s,
+        );
+    }
     let mut places = [0u16; 2048];
-    netlist::fill_places(netlist, &mut places, gates);
     let mut known = [8u8; 2304];
-    changes::fill_inputs(list, width, change, inputs, &mut known);
-    let signals = inputs + gates;
     let mut cells = [0u8; 2304];
-    find(
-        &images,
-        &wanteds,
-        netlist,
-        &places,
-        &known[..signals],
+    search_in(
+        &mut places,
+        &mut known,
         &mut cells,
+        netlist,
+        list,
         inputs,
-        15,
+        gates,
+        width,
+        change,
         s,
     )
 }

@@ -7,35 +7,34 @@ use mathlib.Core.List.{List, _++_, map}
 use mathlib.Core.Option.{Option, none, some}
 use borrow.Author.Tests.{eqb-true, eq-eqb}
 use lib.Dec.{eqb, leb, ltb}
-use lib.ListN.{length, getD, drop, length-map, List·getD-append}
-use Rattle.kung.specs.Class.{Class, c0, code, ofCode, clean, inputClass}
+use lib.ListN.{length, getD, drop, List·getD-append}
+use Rattle.kung.specs.Class.{Class, code, ofCode, clean, inputClass}
 use Rattle.kung.specs.Rule.{gateClass}
 use Rattle.kung.specs.Sets.{has, setOf, cleanSet}
 use Rattle.kung.proofs.Finite.{ofCode-code}
 use Rattle.kung.proofs.SetLaws.{has-setOf, iff→≡}
-use Rattle.circuit.specs.Circuit.{value, values}
+use Rattle.circuit.specs.Circuit.{value}
 use Rattle.circuit.specs.Settled.{classOf}
-use Rattle.circuit.proofs.Laws.{values-length}
 use Rattle.circuit.proofs.Ends.{class-input, class-gate}
 use Rattle.netlist.specs.Netlist.{inputsOf, gatesOf, outputsOf, outputAt, gateKind, gatePins, cardOf}
 use Rattle.netlist.specs.Formed.{Formed}
 use Rattle.netlist.proofs.Accepted.{formed}
 use Rattle.changes.specs.declared.Listed.{Listed}
 use Rattle.changes.specs.declared.Listed.the-variants as list
-use Rattle.changes.specs.Changes.{sourcesOf}
 use Rattle.changes.specs.Refusals.{listChecked}
 use Rattle.changes.proofs.Laws.{tab-length}
 use Rattle.changes.proofs.Accepted.{listed}
 use Rattle.simulate.specs.Full.{classIn, codes, left, fullAnswer, fullBuffer}
 use Rattle.simulate.specs.declared.Simulated.the-variants as simulated
-use Rattle.simulate.proofs.Theorems.{class-value, codes-at}
+use Rattle.simulate.proofs.Theorems.{class-value, codes-length, codes-at}
 use Rattle.search.specs.Search as definition
 use Rattle.core.specs.Core.{answered, searchOf, coreAnswer}
 use Rattle.core.specs.declared.Cored.{Cored}
 use Rattle.core.specs.declared.Cored.the-variants as cored
 use Rattle.core.proofs.Theorems.{core-right}
+use Rattle.core.specs.Outputs.{verdictByte}
 use Rattle.forward.specs.Forward as method
-use Rattle.forward.specs.Forward.{touchedIn, visitedIn, forwardBytes, verdictByte, outputSearch, forwardAnswer, forwardBuffer}
+use Rattle.forward.specs.Forward.{touchedIn, visitedIn, forwardBytes, outputSearch, forwardAnswer, forwardBuffer}
 use Rattle.forward.specs.declared.Forwarded.{Forwarded}
 use Rattle.forward.specs.declared.Forwarded.the-variants as forwarded
 use Rattle.forward.proofs.Theorems.{forward-clean}
@@ -60,18 +59,12 @@ module _ (n l : List ℕ) (change : ℕ) (a : Accepted n l change) where
   pub output-below : (output : ℕ) → output < outputsOf n → outputAt n output < inputsOf n + gatesOf n
   output-below output h = omega (arith, form .output-below output (omega (arith, form .outputs-are)), form .inputs-are, form .gates-are)
 
-  codes-length : length (codes n l change) ≡ inputsOf n + gatesOf n
-  unfolding codes
-  codes-length =
-      length-map (values gateClass c0 (sourcesOf n l change) (inputsOf n + gatesOf n)) code
-      ∙ values-length gateClass c0 (sourcesOf n l change) (inputsOf n + gatesOf n)
-
   full-codes : (buffer : List ℕ) → fullAnswer n l change buffer ≡ simulated.Done → (s : ℕ) → s < inputsOf n + gatesOf n
       → getD (fullBuffer n l change buffer) s 0 ≡ code (classIn n l change s)
   unfolding fullBuffer
   full-codes buffer e s h =
       ap (λ x. getD (left x (codes n l change) buffer) s 0) e
-      ∙ List·getD-append (codes n l change) (drop (length (codes n l change)) buffer) 0 s (rw codes-length h) ∙ codes-at n l change s h
+      ∙ List·getD-append (codes n l change) (drop (length (codes n l change)) buffer) 0 s (rw (codes-length n l change) h) ∙ codes-at n l change s h
 
   bytes-length : length (forwardBytes n l change) ≡ outputsOf n
   unfolding forwardBytes

@@ -8,7 +8,7 @@ use mathlib.Core.Bool.{Bool, true, false, cond, _||_, Bool·beq}
 use mathlib.Core.List.{List, [], _∷_, _++_}
 use mathlib.Core.Option.{none, some}
 use lib.Dec.{ltb}
-use lib.ListN.{length, getD, drop, replicate, length-append, length-drop, length-map, length-replicate, List·getD-append}
+use lib.ListN.{length, getD, drop, replicate, length-append, length-drop, length-replicate, List·getD-append}
 use lib.Seq.{getD-drop, getD-append-add}
 use borrow.Author.Tests.{lt-ltb}
 use Rattle.kung.specs.Class.{Class, c0, code, ofCode}
@@ -17,8 +17,8 @@ use Rattle.kung.specs.Rule.{gateClass}
 use Rattle.kung.specs.Sets.{bit, cleanSet}
 use Rattle.kung.specs.Tables.{tab, imageTable, wantedTable}
 use Rattle.kung.proofs.Finite.{everyClass, class-at, beq→≡, ofCode-code}
-use Rattle.circuit.specs.Circuit.{Source, given, gate, outOf, Each, values, value}
-use Rattle.circuit.proofs.Laws.{each-map, values-length, value-law, sources-cases}
+use Rattle.circuit.specs.Circuit.{Source, given, gate, outOf, Each, value}
+use Rattle.circuit.proofs.Laws.{each-map, value-law, sources-cases}
 use Rattle.netlist.specs.Netlist.{inputsOf, gatesOf, placesOf, gateKind, gatePins, cardOf}
 use Rattle.netlist.specs.Words.{wordAt}
 use Rattle.netlist.specs.Formed.{Formed}
@@ -32,14 +32,14 @@ use Rattle.search.specs.Search.{search}
 use Rattle.search.specs.Pins.{sumBelow}
 use Rattle.search.proofs.Laws.{fresh-at}
 use Rattle.core.specs.Source.{kindFrom, pinsFrom, sourceFrom, GatesOnly}
+use Rattle.core.specs.Outputs.{verdictByte, searchFrom, byteFrom, sumFrom, OutputsReady}
 use Rattle.core.proofs.Codes.{code-small}
 use Rattle.core.proofs.Cards.{ready}
 use Rattle.simulate.specs.Full.{classIn, codes}
-use Rattle.simulate.proofs.Theorems.{class-value, codes-at}
+use Rattle.simulate.proofs.Theorems.{class-value, codes-length, codes-at}
 use Rattle.forward.specs.Constants.{isConstant, constantOf, isKnown, orKnown, knownSources, touched}
-use Rattle.forward.specs.Forward.{constantsIn, touchedIn, outputSearch, verdictByte, forwardBytes, visitedIn}
+use Rattle.forward.specs.Forward.{constantsIn, touchedIn, outputSearch, forwardBytes, visitedIn}
 use Rattle.forward.specs.Known.{isConstantCode, anyConstant, touchedBy, knownOr8, knownCodes}
-use Rattle.forward.specs.Outputs.{searchFrom, byteFrom, visitedFrom, Searchable}
 use Rattle.forward.proofs.Constants.{spread-is, known-given}
 use Rattle.forward.proofs.Theorems.{falling}
 use Rattle.forward.proofs.Bytes.{written-below, written-at, written-after}
@@ -94,19 +94,16 @@ module _ {i g o p e c w : ℕ} (n l : List ℕ) (accepted : listChecked n l ≡ 
   pub signals-high : i + g ≤ 2304
   signals-high = omega (arith, f .inputs-high, f .gates-high)
 
-  codes-length : length (codes n l t) ≡ i + g
-  unfolding codes
-  codes-length =
-      length-map (values gateClass c0 (sourcesOf n l t) (inputsOf n + gatesOf n)) code
-      ∙ values-length gateClass c0 (sourcesOf n l t) (inputsOf n + gatesOf n) ∙ signals-are
+  codes-few : length (codes n l t) ≡ i + g
+  codes-few = codes-length n l t ∙ signals-are
 
   filled-below : (s : ℕ) → s < i + g → getD filled s 0 ≡ code (classIn n l t s)
   filled-below s h =
-      List·getD-append (codes n l t) (drop (i + g) (replicate 2304 0)) 0 s (rw codes-length h) ∙ codes-at n l t s (rw signals-are h)
+      List·getD-append (codes n l t) (drop (i + g) (replicate 2304 0)) 0 s (rw codes-few h) ∙ codes-at n l t s (rw signals-are h)
 
   filled-above : (s : ℕ) → i + g ≤ s → getD filled s 0 ≡ 0
   filled-above s h =
-      let d : s ≡ length (codes n l t) + (s - (i + g)) = omega (arith, codes-length) in
+      let d : s ≡ length (codes n l t) + (s - (i + g)) = omega (arith, codes-few) in
       ap (λ k. getD filled k 0) d ∙ getD-append-add (codes n l t) (drop (i + g) (replicate 2304 0)) (s - (i + g)) 0
       ∙ getD-drop (i + g) (replicate 2304 0) (s - (i + g)) 0 ∙ fresh-at 2304 (i + g + (s - (i + g)))
 
@@ -138,7 +135,7 @@ module _ {i g o p e c w : ℕ} (n l : List ℕ) (accepted : listChecked n l ≡ 
       ∙ ap (λ c. outOf gateClass c (value gateClass c0 (sourcesOf n l t))) d
 
   inputs-fit : i ≤ length filled
-  inputs-fit = omega (arith, length-append (codes n l t) (drop (i + g) (replicate 2304 0)), codes-length)
+  inputs-fit = omega (arith, length-append (codes n l t) (drop (i + g) (replicate 2304 0)), codes-few)
 
   marked-input : (s : ℕ) → s < i → getD marked s 0 ≡ code (classIn n l t s)
   unfolding knownCodes
@@ -187,7 +184,7 @@ module _ {i g o p e c w : ℕ} (n l : List ℕ) (accepted : listChecked n l ≡ 
   unfolding searchFrom outputSearch
   search-is out = ap₂ (λ src at. search src cleanSet (wordAt n (at + 2 * out))) (fun-ext source-at) (f .entries-are)
 
-  pub visited-is : visitedFrom n marked e o ≡ visitedIn n l t
+  pub visited-is : sumFrom (λ a. a .gates) n marked e o ≡ visitedIn n l t
   unfolding visitedIn
   visited-is = ap₂ sumBelow (fun-ext (λ out. ap (λ a. a .gates) (search-is out))) (f .outputs-are)
 
@@ -211,7 +208,7 @@ module _ {i g o p e c w : ℕ} (n l : List ℕ) (accepted : listChecked n l ≡ 
       omega (
         arith,
         length-append (codes n l t) (drop (i + g) (replicate 2304 0)),
-        codes-length,
+        codes-few,
         length-drop (i + g) (replicate {A = ℕ} 2304 0),
         length-replicate {A = ℕ} 2304 0,
         signals-high,
@@ -226,7 +223,7 @@ module _ {i g o p e c w : ℕ} (n l : List ℕ) (accepted : listChecked n l ≡ 
 
   -- the outputs can be searched
   pub searchable : (now : List ℕ) → now ≡ marked → (images wanteds places rest : List ℕ) → images ≡ imageTable → wanteds ≡ wantedTable
-      → places ≡ placesOf n g ++ rest → (room : ℕ) → o ≤ room → Searchable images wanteds n places now i o e room
+      → places ≡ placesOf n g ++ rest → (room : ℕ) → o ≤ room → OutputsReady images wanteds n places now i o e room
   searchable now d images wanteds places rest images-are wanteds-are places-are room enough =
       rw d
       (record {

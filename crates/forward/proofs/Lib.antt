@@ -4,4 +4,3 @@ pub mod Answers
 pub mod Cases
 mod Bytes
 mod Changes
-mod Outputs

@@ -24,10 +24,11 @@ use Rattle.changes.proofs.Accepted.{listed}
 use Rattle.search.specs.Search as search
 use Rattle.search.specs.Search.{search}
 use Rattle.search.proofs.Known.{search-known}
+use Rattle.core.specs.Outputs.{verdictByte}
 use Rattle.simulate.specs.Full.{classIn}
 use Rattle.simulate.proofs.Theorems.{class-value}
 use Rattle.forward.specs.Constants.{isConstant, follows, spread, knownSources}
-use Rattle.forward.specs.Forward.{constantsIn, outputSearch, verdictByte, forwardBytes}
+use Rattle.forward.specs.Forward.{constantsIn, outputSearch, forwardBytes}
 use Rattle.forward.proofs.Constants.{inPass, spread-stays, one-pass, constants-exactly, known-sources}
 
 -- a class is judged by the wanted set {0, 1, R, F}

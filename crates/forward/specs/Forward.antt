@@ -13,8 +13,9 @@ use Rattle.changes.specs.declared.Listed.{Listed}
 use Rattle.changes.specs.declared.Listed.the-variants as list
 use Rattle.changes.specs.Changes.{sourcesOf}
 use Rattle.changes.specs.Refusals.{listChecked}
-use Rattle.search.specs.Search.{Verdict, clean, hazardous, Answer, search}
+use Rattle.search.specs.Search.{Answer, search}
 use Rattle.search.specs.Pins.{sumBelow}
+use Rattle.core.specs.Outputs.{verdictByte}
 use Rattle.forward.specs.Constants.{constants, knownSources, touched}
 use Rattle.forward.specs.declared.Forwarded.{Forwarded}
 use Rattle.forward.specs.declared.Forwarded.the-variants.{Done, Refused}
@@ -31,10 +32,6 @@ unfoldable pub outputSearch : (netlist list : List ℕ) → (t output : ℕ) →
 outputSearch n l t o = search (knownSources (sourcesOf n l t) (inputsOf n + gatesOf n)) cleanSet (outputAt n o)
 
 -- "The first O bytes of a lent buffer get 0 (clean) or 1 (hazardous)"
-abbrev pub verdictByte : Verdict → ℕ
-verdictByte (clean k) = 0
-verdictByte hazardous = 1
-
 unfoldable pub forwardBytes : (netlist list : List ℕ) → (t : ℕ) → List ℕ
 forwardBytes n l t = tab (λ o. verdictByte ((outputSearch n l t o) .verdict)) 0 (outputsOf n)
 

@@ -1,4 +1,4 @@
 pub mod Constants
 pub mod Forward
 pub mod Known
-pub mod Outputs
+pub mod Lent

@@ -6,12 +6,10 @@ ghost use lib.ListN.{length, drop};
 ghost use Rattle.circuit.specs.Circuit.{Each};
 ghost use Rattle.netlist.specs.Words.{wordsAt};
 ghost use Rattle.simulate.specs.Pass.{Spreads};
-ghost use Rattle.changes.specs.Changes.{written};
 ghost use Rattle.forward.specs.Known.{anyConstant, touchedBy, knownOr8, knownCodes};
-ghost use Rattle.forward.specs.Outputs.{byteOf, byteFrom, visitedFrom, Searchable, ChangeOf, Judgeable};
+ghost use Rattle.forward.specs.Lent.{ChangeOf, Judgeable};
 ghost use Rattle.forward.specs.Forward.{touchedIn, forwardBytes, visitedIn, forwardAnswer, forwardBuffer};
 use changes::Listed;
-use core::Verdict;
 
 // Whether a pin whose signal number is one of the `count` from `at` on has a constant driver.
 fn has_constant(netlist: &[u8], at: usize, count: usize, classes: &[u8]) -> bool
@@ -63,53 +61,6 @@ fn mark_unknown(inputs: usize, gates: usize, known: &mut [u8])
     }
 }
 
-// An output's byte.
-fn byte_of(verdict: Verdict) -> u8
-    ensures { λ r. ⌜ r ≡ byteOf verdict ⌝ }
-{
-    match verdict {
-        Verdict::Clean { class: _ } => 0,
-        Verdict::Hazardous => 1,
-    }
-}
-
-// Searches each output afresh and writes its byte; returns the gates visited in all searches.
-fn search_outputs(
-    images: &[u8; 4096],
-    wanteds: &[u8; 4608],
-    netlist: &[u8],
-    places: &[u16],
-    known: &[u8],
-    inputs: usize,
-    outputs: usize,
-    entries: usize,
-    buffer: &mut [u8],
-) -> usize
-    requires { ⌜ Searchable (now images) (now wanteds) (now netlist) (now places) (now known) inputs outputs entries (length (now buffer)) ⌝ }
-    ensures { λ r. ⌜ (r ≡ visitedFrom (now (netlist .entry)) (now (known .entry)) entries outputs) × (now (buffer .exit) ≡ written (now (buffer .entry)) 0 (byteFrom (now (netlist .entry)) (now (known .entry)) entries) outputs) ⌝ }
-{
-    let mut cells: [u8; 2304] = [0; 2304];
-    let mut visited: usize = 0;
-    for output in 0..outputs {
-        let s = netlist::entry_at(netlist, entries, output) as usize;
-        let found = core::find(
-            images,
-            wanteds,
-            netlist,
-            places,
-            known,
-            &mut cells,
-            inputs,
-            15,
-            s,
-        );
-        let verdict = found.verdict;
-        buffer[output] = byte_of(verdict);
-        visited += found.gates;
-    }
-    visited
-}
-
 // The touched count, and the gates visited in all searches.
 pub struct Counts {
     pub touched: usize,
@@ -120,7 +71,7 @@ pub struct Counts {
 pub fn judge(
     table: &[u8; 2048],
     images: &[u8; 4096],
-    wanteds: &[u8; 4608],
+    wanteds: &[u8; 576],
     netlist: &[u8],
     list: &[u8],
     places: &[u16],
@@ -148,18 +99,23 @@ pub fn judge(
     );
     let touched = count_touched(netlist, inputs, gates, &known);
     mark_unknown(inputs, gates, &mut known);
-    let visited = search_outputs(
+    let mut cells: [u8; 2304] = [0; 2304];
+    let searched = core::search_outputs(
         images,
         wanteds,
         netlist,
         places,
         &known,
+        &mut cells,
         inputs,
         outputs,
         entries,
         buffer,
     );
-    Counts { touched, visited }
+    Counts {
+        touched,
+        visited: searched.gates,
+    }
 }
 
 // The same for one change alone.

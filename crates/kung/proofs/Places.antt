@@ -4,15 +4,16 @@ use mathlib.Core.Bool.{cond}
 use mathlib.Core.List.{List}
 use Prim.Native.Nat.{ℕ, _+_, _*_, _/_, _%_, _<_}
 use native.Mathlib.Omega.{arith}
+use lib.Bits.{bitOr}
 use lib.Dec.{eqb, ltb}
 use lib.ListN.{getD}
 use borrow.Author.Tests.{lt-ltb, le-ltb}
 use Rattle.kung.specs.Class.{Class, c0, code, classes, ofCode}
-use Rattle.kung.specs.Rule.{kindOf, gateClass}
-use Rattle.kung.specs.Operation.{Op, and, or, opAt}
-use Rattle.kung.specs.Sets.{image, members}
-use Rattle.kung.specs.Tables.{tab, imageRule, imageTable, preimage, reach, wantedRule, wantedTable, gateRule, gateTable, placeOf}
-use Rattle.kung.proofs.Listed.{getD-tab}
+use Rattle.kung.specs.Rule.{each, some, andAll, orAll, kindOf, gateClass}
+use Rattle.kung.specs.Operation.{Op, and, or, opAt, join, joinAll}
+use Rattle.kung.specs.Sets.{setOf, has, image, members}
+use Rattle.kung.specs.Tables.{tab, imageRule, imageTable, preimage, reach, blockRule, halfSet, wantedRule, wantedTable, gateRule, gateTable, placeOf}
+use Rattle.kung.proofs.Listed.{getD-tab, agree}
 
 -- an operation, a class and a set are read back from their place
 read : (f : Op → Class → ℕ → ℕ) (o p m : ℕ) → m < 256
@@ -32,18 +33,48 @@ module _ (o p m : ℕ) (h : m < 256) where
   unfolding imageTable imageRule
   image-at = getD-tab imageRule 4096 (placeOf o p m) (place-lt o p m h) ∙ read image o p m h
 
-  pub preimage-at : getD wantedTable (placeOf o p m) 0 ≡ preimage (opAt o) (ofCode p) m
-  unfolding wantedTable wantedRule
-  preimage-at =
-      getD-tab wantedRule 4608 (placeOf o p m) (omega (arith, place-lt o p m h)) ∙ rw (lt-ltb (placeOf o p m) 4096 (place-lt o p m h)) (read preimage o p m h)
+-- what a block has for a set is the union of what it has for the set's halves
+union : (b m : ℕ) → b < 18 → m < 256 → bitOr (blockRule b (m % 16)) (blockRule b (m / 16 * 16)) ≡ blockRule b m
+unfolding tab blockRule preimage reach setOf has some each join joinAll andAll orAll ofCode
+union b m low byte =
+    let c : (b * 256 + m) / 256 ≡ b = omega arith in
+    let d : (b * 256 + m) % 256 ≡ m = omega arith in
+    sym (λ i. bitOr (blockRule (c i) (d i % 16)) (blockRule (c i) (d i / 16 * 16)))
+    ∙ agree (λ i. bitOr (blockRule (i / 256) (i % 256 % 16)) (blockRule (i / 256) (i % 256 / 16 * 16))) (λ i. blockRule (i / 256) (i % 256)) 4608 refl
+    (b * 256 + m) (omega arith)
+    ∙ ap₂ blockRule c d
 
-pub reach-at : (o m : ℕ) → m < 256 → getD wantedTable (4096 + o % 2 * 256 + m) 0 ≡ reach (opAt o) m
-unfolding wantedTable wantedRule
-reach-at o m h =
-    let a : (4096 + o % 2 * 256 + m) / 256 % 2 ≡ o % 2 = omega arith in
-    let d : (4096 + o % 2 * 256 + m) % 256 ≡ m = omega arith in
-    getD-tab wantedRule 4608 (4096 + o % 2 * 256 + m) (omega arith)
-    ∙ rw (le-ltb (4096 + o % 2 * 256 + m) 4096 (omega arith)) (λ i. reach (cond (eqb (a i) 0) and or) (d i))
+-- entry k of a block
+entry : (b k m : ℕ) → b < 18 → k < 32 → cond (ltb k 16) (k % 16) (k % 16 * 16) ≡ m → getD wantedTable (b * 32 + k) 0 ≡ blockRule b m
+unfolding wantedTable wantedRule halfSet
+entry b k m low less e =
+    let c : (b * 32 + k) / 32 ≡ b = omega arith in
+    let d : (b * 32 + k) % 32 ≡ k = omega arith in
+    let f : (b * 32 + k) % 16 ≡ k % 16 = omega arith in
+    getD-tab wantedRule 576 (b * 32 + k) (omega arith) ∙ (λ i. blockRule (c i) (cond (ltb (d i) 16) (f i) (f i * 16))) ∙ ap (blockRule b) e
+
+pub block-at : (b m : ℕ) → b < 18 → m < 256 → bitOr (getD wantedTable (b * 32 + m % 16) 0) (getD wantedTable (b * 32 + (16 + m / 16)) 0) ≡ blockRule b m
+block-at b m low byte =
+    ap₂ bitOr (entry b (m % 16) (m % 16) low (omega arith) lower) (entry b (16 + m / 16) (m / 16 * 16) low (omega arith) upper) ∙ union b m low byte
+  where
+    lower : cond (ltb (m % 16) 16) (m % 16 % 16) (m % 16 % 16 * 16) ≡ m % 16
+    lower = rw (lt-ltb (m % 16) 16 (omega arith)) omega arith
+
+    upper : cond (ltb (16 + m / 16) 16) ((16 + m / 16) % 16) ((16 + m / 16) % 16 * 16) ≡ m / 16 * 16
+    upper = rw (le-ltb (16 + m / 16) 16 (omega arith)) omega arith
+
+pub preimage-block : (o p m : ℕ) → blockRule (o % 2 * 8 + p % 8) m ≡ preimage (opAt o) (ofCode p) m
+unfolding blockRule ofCode
+preimage-block o p m =
+    let a : (o % 2 * 8 + p % 8) / 8 % 2 ≡ o % 2 = omega arith in
+    let b : (o % 2 * 8 + p % 8) % 8 ≡ p % 8 = omega arith in
+    rw (lt-ltb (o % 2 * 8 + p % 8) 16 (omega arith)) (λ i. preimage (cond (eqb (a i) 0) and or) (getD classes (b i) c0) m)
+
+pub reach-block : (o m : ℕ) → blockRule (16 + o % 2) m ≡ reach (opAt o) m
+unfolding blockRule
+reach-block o m =
+    let a : (16 + o % 2) % 2 ≡ o % 2 = omega arith in
+    rw (le-ltb (16 + o % 2) 16 (omega arith)) (λ i. reach (cond (eqb (a i) 0) and or) m)
 
 pub gate-at : (d m : ℕ) → m < 256 → getD gateTable (d % 8 * 256 + m) 0 ≡ code (gateClass (kindOf (d % 8)) (members m))
 unfolding gateTable gateRule

@@ -4,12 +4,13 @@ use mathlib.Core.Bool.{Bool, true, false, cond, _&&_, _||_, Bool·beq, false≢t
 use mathlib.Core.List.{List, [], _∷_}
 use Prim.Native.Nat.{ℕ, zero, suc, _+_, _*_, _<_}
 use native.Mathlib.Omega.{arith}
+use lib.Count.{trailingZeros}
 use lib.Dec.{T, eqb, eqb→eq, eqb-refl, ltb, ltb→lt}
 use lib.ListN.{length, getD}
 use Rattle.kung.specs.Class.{Class, c0, c1, R, F, S0, S1, D+, D-, code, classes, same}
 use Rattle.kung.specs.Rule.{each, some, andAll, orAll, Kind, gateClass}
 use Rattle.kung.specs.Operation.{Op, and, or, opOf, inverts, join, joinAll, invertIf}
-use Rattle.kung.specs.Sets.{bit, setOf, has, meets, image, possible, wantedFor, swapIf, keep, members, insert, collect, only}
+use Rattle.kung.specs.Sets.{bit, setOf, has, meets, image, possible, wantedFor, swapIf, keep, members, insert, collect}
 use Rattle.kung.specs.Tables.{preimage, reach}
 use Rattle.kung.proofs.Laws.{join-assoc, joinAll-cons, gateClass-op}
 use Rattle.kung.proofs.Finite.{everyOp, everyPair, pair-at, everyClass, everyBool, class-at, bool-at, same→≡, beq→≡, T→≡, ≡→T}
@@ -197,9 +198,9 @@ module _ (o : Op) (inverted : Bool) (p : Class) (w : ℕ) where
           (ap (λ z. has w (invertIf inverted z)) (join-assoc o p k (x .0)) ∙ sym (into (join o k (x .0))) ∙ x .1)
 
 -- The forms in which the code makes the sets, by one test each.
-pub only-image : (o : Op) (p k : Class) → only (image o p (insert 0 k)) ≡ code (join o p k)
-unfolding only keep image insert has setOf some join joinAll andAll orAll each everyPair everyOp everyClass
-only-image o p k = eqb→eq _ _ (pair-at (λ o p k. eqb (only (image o p (insert 0 k))) (code (join o p k))) tt o p k)
+pub lowest-image : (o : Op) (p k : Class) → trailingZeros 8 (image o p (insert 0 k)) ≡ code (join o p k)
+unfolding trailingZeros image insert has setOf some join joinAll andAll orAll each everyPair everyOp everyClass
+lowest-image o p k = eqb→eq _ _ (pair-at (λ o p k. eqb (trailingZeros 8 (image o p (insert 0 k))) (code (join o p k))) tt o p k)
 
 pub possible-left : (o : Op) (inverted : Bool) (p : Class) → swapIf inverted (image o p 255) ≡ possible o inverted p true
 unfolding swapIf image has setOf some possible join joinAll andAll orAll each everyPair everyOp everyClass

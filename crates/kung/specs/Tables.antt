@@ -32,12 +32,19 @@ preimage o p m = setOf (λ k. has m (join o p k))
 unfoldable pub reach : Op → ℕ → ℕ
 reach o m = setOf (λ k. some (λ c. has m (join o k c)) classes)
 
--- wanted sets: preimages as the images stand, then 512 entries of AND or OR and 256 sets
+-- wanted sets, in blocks: preimages for AND or OR and eight classes p, then reach for AND or OR
+unfoldable pub blockRule : (block set : ℕ) → ℕ
+blockRule b m = cond (ltb b 16) (preimage (opAt (b / 8)) (ofCode b) m) (reach (opAt b) m)
+
+-- Both are unions over the set's classes, so a block has only the 16 sets of lower classes and the 16 of upper classes.
+unfoldable pub halfSet : ℕ → ℕ
+halfSet i = cond (ltb (i % 32) 16) (i % 16) (i % 16 * 16)
+
 unfoldable pub wantedRule : ℕ → ℕ
-wantedRule i = cond (ltb i 4096) (preimage (opAt (i / 2048)) (ofCode (i / 256)) (i % 256)) (reach (opAt (i / 256)) (i % 256))
+wantedRule i = blockRule (i / 32) (halfSet i)
 
 unfoldable pub wantedTable : List ℕ
-wantedTable = tab wantedRule 0 4608
+wantedTable = tab wantedRule 0 576
 
 -- a gate's class by its kind and the set of its pins' classes: kinds 0 to 7, 256 sets
 unfoldable pub gateRule : ℕ → ℕ

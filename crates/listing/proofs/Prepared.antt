@@ -3,13 +3,10 @@ use Prim.Native.Nat.{ℕ, _+_, _≤_, _<_}
 use native.Mathlib.Omega.{arith}
 use mathlib.Core.Path.{_≡_, sym, _∙_, ap, subst}
 use mathlib.Core.List.{List, _++_}
-use lib.ListN.{length, getD, length-append, length-map, List·getD-append}
-use Rattle.kung.specs.Class.{Class, c0, code, ofCode}
-use Rattle.kung.specs.Rule.{gateClass}
+use lib.ListN.{length, getD, length-append, List·getD-append}
+use Rattle.kung.specs.Class.{Class, ofCode}
 use Rattle.kung.specs.Sets.{cleanSet}
 use Rattle.kung.proofs.Finite.{ofCode-code}
-use Rattle.circuit.specs.Circuit.{values}
-use Rattle.circuit.proofs.Laws.{values-length}
 use Rattle.netlist.specs.Netlist.{inputsOf, gatesOf, outputsOf, outputAt}
 use Rattle.netlist.specs.Formed.{Formed}
 use Rattle.netlist.proofs.Accepted.{formed}
@@ -20,7 +17,7 @@ use Rattle.changes.specs.Formed.{ListFormed}
 use Rattle.changes.proofs.Accepted.{listed}
 use Rattle.simulate.specs.Full.{Ready, codes, classIn}
 use Rattle.simulate.proofs.Answers.{ready}
-use Rattle.simulate.proofs.Theorems.{codes-at}
+use Rattle.simulate.proofs.Theorems.{codes-length, codes-at}
 use Rattle.search.specs.Search.{search}
 use Rattle.core.specs.Source.{sourceFrom, GatesOnly, inputsKnown}
 use Rattle.core.specs.Core.{searchOf}
@@ -55,11 +52,8 @@ module _ (n l : List ℕ) {sizes : Sizes} (sizes-are : sizes ≡ sizesOf (listCh
   pub simulates : Ready n l (sizes .inputs) (sizes .gates) (sizes .width) change 2304
   simulates = ready n l is change 2304 early (omega (arith, card-formed .inputs-high, card-formed .gates-high))
 
-  codes-length : length (codes n l change) ≡ sizes .inputs + sizes .gates
-  unfolding codes
-  codes-length =
-      length-map (values gateClass c0 (sourcesOf n l change) (inputsOf n + gatesOf n)) code
-      ∙ values-length gateClass c0 (sourcesOf n l change) (inputsOf n + gatesOf n) ∙ omega (arith, card-formed .inputs-are, card-formed .gates-are)
+  codes-few : length (codes n l change) ≡ sizes .inputs + sizes .gates
+  codes-few = omega (arith, codes-length n l change, card-formed .inputs-are, card-formed .gates-are)
 
   module _ (known classes rest : List ℕ) (known-are : known ≡ inputsKnown n v) (classes-are : classes ≡ codes n l change ++ rest) where
     signals : length known ≡ sizes .inputs + sizes .gates
@@ -73,7 +67,7 @@ module _ (n l : List ℕ) {sizes : Sizes} (sizes-are : sizes ≡ sizesOf (listCh
               (subst (GatesOnly n) (sym known-are) (cards.inputs-only n v));
           entries-are = card-formed .entries-are;
           below = λ o h. omega (arith, signals, card-formed .output-below o h);
-          classed = omega (arith, signals, codes-length, ap length classes-are, length-append (codes n l change) rest);
+          classed = omega (arith, signals, codes-few, ap length classes-are, length-append (codes n l change) rest);
           known-high = omega (arith, signals, card-formed .inputs-high, card-formed .gates-high);
         }
 
@@ -86,7 +80,7 @@ module _ (n l : List ℕ) {sizes : Sizes} (sizes-are : sizes ≡ sizesOf (listCh
         class =
             ap ofCode
             (ap (λ c. getD c (outputAt n o) 0) classes-are
-            ∙ List·getD-append (codes n l change) rest 0 (outputAt n o) (omega (arith, codes-length, card-formed .output-below o h))
+            ∙ List·getD-append (codes n l change) rest 0 (outputAt n o) (omega (arith, codes-few, card-formed .output-below o h))
             ∙ codes-at n l change (outputAt n o) (omega (arith, card-formed .output-below o h, card-formed .inputs-are, card-formed .gates-are)))
             ∙ ofCode-code (classIn n l change (outputAt n o))
 

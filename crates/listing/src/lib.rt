@@ -7,6 +7,7 @@ ghost use Rattle.report.specs.Appended.{Appended};
 ghost use Rattle.listing.specs.Listing.{texts, changeLines, firstLine};
 ghost use Rattle.listing.specs.Lent.{sizesOf, cleanVerdict, lineFrom, Lined, Tabled, Headed, Paged};
 use changes::Listed;
+use core::CLEAN_SET;
 use core::Verdict;
 
 // The most bytes of a change's lines: 64 lines of at most 48 bytes.
@@ -104,7 +105,7 @@ fn is_clean(verdict: Verdict) -> bool
 // The line of an output.
 fn put_output(
     images: &[u8; 4096],
-    wanteds: &[u8; 4608],
+    wanteds: &[u8; 576],
     netlist: &[u8],
     places: &[u16],
     known: &[u8],
@@ -130,7 +131,7 @@ fn put_output(
         known,
         cells,
         sizes.inputs,
-        15,
+        CLEAN_SET,
         s,
     );
     let verdict = found.verdict;
@@ -149,7 +150,7 @@ fn put_output(
 // The lines of all outputs.
 fn put_outputs(
     images: &[u8; 4096],
-    wanteds: &[u8; 4608],
+    wanteds: &[u8; 576],
     netlist: &[u8],
     places: &[u16],
     known: &[u8],
@@ -189,7 +190,7 @@ fn put_outputs(
 // The lines of a change: one simulation, and a search for each output.
 fn put_change(
     images: &[u8; 4096],
-    wanteds: &[u8; 4608],
+    wanteds: &[u8; 576],
     table: &[u8; 2048],
     netlist: &[u8],
     list: &[u8],
@@ -234,7 +235,7 @@ fn put_change(
 // The lines of the changes from `from` on, until fewer bytes are left than a change may need.
 fn put_page(
     images: &[u8; 4096],
-    wanteds: &[u8; 4608],
+    wanteds: &[u8; 576],
     table: &[u8; 2048],
     netlist: &[u8],
     list: &[u8],

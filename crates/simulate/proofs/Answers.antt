@@ -4,20 +4,15 @@ use native.Mathlib.Omega.{arith}
 use mathlib.Core.Path.{_≡_, refl, sym, _∙_, ap}
 use mathlib.Core.List.{List, _++_}
 use borrow.Author.Tests.{le-leb, lt-leb, lt-ltb, le-ltb}
-use lib.ListN.{length, drop, length-map}
-use Rattle.kung.specs.Class.{c0, code}
-use Rattle.kung.specs.Rule.{gateClass}
-use Rattle.circuit.specs.Circuit.{values}
-use Rattle.circuit.proofs.Laws.{values-length}
-use Rattle.netlist.specs.Netlist.{inputsOf, gatesOf}
+use lib.ListN.{length, drop}
 use Rattle.netlist.proofs.Accepted.{formed}
 use Rattle.changes.specs.declared.Listed.the-variants as list
-use Rattle.changes.specs.Changes.{sourcesOf}
 use Rattle.changes.specs.Refusals.{listChecked}
 use Rattle.changes.proofs.Accepted.{listed}
 use Rattle.simulate.specs.declared.Simulated.the-variants.{Done, Refused}
 use Rattle.simulate.specs.Full.{Ready, codes, judged, left, fullAnswer, fullBuffer}
 use Rattle.simulate.proofs.Laws.{spreads}
+use Rattle.simulate.proofs.Theorems.{codes-length}
 
 module _ (n l : List ℕ) (change : ℕ) (buffer : List ℕ) where
   pub refused-list : (number place : ℕ) → listChecked n l ≡ list.Refused number place
@@ -36,19 +31,15 @@ module _ (n l : List ℕ) (change : ℕ) (buffer : List ℕ) where
       refused-room small =
           (rw (e, lt-leb t change early, lt-ltb (length buffer) (i + g) small), rw (e, lt-leb t change early, lt-ltb (length buffer) (i + g) small))
 
-      codes-length : length (codes n l change) ≡ i + g
-      unfolding codes
-      codes-length =
-          let f = formed n (listed n l e .netlist-accepted) in
-          length-map (values gateClass c0 (sourcesOf n l change) (inputsOf n + gatesOf n)) code
-          ∙ values-length gateClass c0 (sourcesOf n l change) (inputsOf n + gatesOf n) ∙ omega (arith, f .inputs-are, f .gates-are)
+      signals : length (codes n l change) ≡ i + g
+      signals = let f = formed n (listed n l e .netlist-accepted) in omega (arith, codes-length n l change, f .inputs-are, f .gates-are)
 
       pub done : i + g ≤ length buffer → (exit : List ℕ) → exit ≡ codes n l change ++ drop (i + g) buffer
           → (Done ≡ fullAnswer n l change buffer) × (exit ≡ fullBuffer n l change buffer)
       unfolding fullAnswer fullBuffer judged
       done room exit x = (
         rw (e, lt-leb t change early, le-ltb (length buffer) (i + g) room),
-        rw (e, lt-leb t change early, le-ltb (length buffer) (i + g) room, codes-length) x,
+        rw (e, lt-leb t change early, le-ltb (length buffer) (i + g) room, signals) x,
       )
 
 -- an accepted list's change is ready

@@ -3,12 +3,12 @@ use Prim.Native.Nat.{ℕ, _+_, _<_}
 use native.Mathlib.Omega.{arith}
 use mathlib.Core.Path.{_≡_, refl, sym, _∙_, ap}
 use mathlib.Core.List.{List, map}
-use lib.ListN.{getD, List·getD-map}
+use lib.ListN.{length, getD, length-map, List·getD-map}
 use Rattle.kung.specs.Class.{Class, c0, code, start, end}
 use Rattle.kung.specs.Rule.{gateClass}
 use Rattle.circuit.specs.Circuit.{values, value}
 use Rattle.circuit.specs.Settled.{settled, classOf}
-use Rattle.circuit.proofs.Laws.{values-at}
+use Rattle.circuit.proofs.Laws.{values-length, values-at}
 use Rattle.circuit.proofs.Ends.{class-gate, start-is, end-is}
 use Rattle.netlist.specs.Netlist.{inputsOf, gatesOf, gateKind, gatePins, cardOf}
 use Rattle.netlist.specs.Formed.{Formed}
@@ -19,6 +19,13 @@ use Rattle.simulate.specs.Full.{classIn, codes}
 pub class-value : (n l : List ℕ) (t s : ℕ) → classIn n l t s ≡ value gateClass c0 (sourcesOf n l t) s
 unfolding classIn classOf sourcesOf inputClassAt
 class-value n l t s = refl
+
+-- a code for each signal
+pub codes-length : (n l : List ℕ) (t : ℕ) → length (codes n l t) ≡ inputsOf n + gatesOf n
+unfolding codes
+codes-length n l t =
+    length-map (values gateClass c0 (sourcesOf n l t) (inputsOf n + gatesOf n)) code
+    ∙ values-length gateClass c0 (sourcesOf n l t) (inputsOf n + gatesOf n)
 
 -- byte s of what is written is the code of signal s's class
 pub codes-at : (n l : List ℕ) (t s : ℕ) → s < inputsOf n + gatesOf n → getD (codes n l t) s 0 ≡ code (classIn n l t s)

@@ -36,7 +36,7 @@ use Rattle.core.proofs.waiter_of.Reads as waiter-of-reads
 use Rattle.core.proofs.wanted_behind.Reads as wanted-behind-reads
 use Rattle.netlist.proofs.count_at.Reads as count-at-reads
 use Rattle.netlist.proofs.kind_at.Reads as kind-at-reads
-use Rattle.netlist.proofs.pin_at.Reads as pin-at-reads
+use Rattle.core.proofs.pin_in.Reads as pin-in-reads
 use Rattle.core.proofs.+take+visit.{statement}
 use Rattle.core.proofs.+take+visit.Tie.{close}
 
@@ -62,18 +62,18 @@ abbrev take-calls : ℕ → take-lts.Claims
 take-calls t = (
   place-of-reads.Asked,
   place-of-reads.Learnt,
-  kind-at-reads.Asked,
-  kind-at-reads.Learnt,
-  waiter-of-reads.Asked,
-  waiter-of-reads.Learnt,
-  wanted-behind-reads.Asked,
-  wanted-behind-reads.Learnt,
-  pin-at-reads.Asked,
-  pin-at-reads.Learnt,
+  pin-in-reads.Asked,
+  pin-in-reads.Learnt,
   keep-reads.Asked,
   keep-reads.Learnt,
   driver-at-reads.Asked,
   driver-at-reads.Learnt,
+  wanted-behind-reads.Asked,
+  wanted-behind-reads.Learnt,
+  kind-at-reads.Asked,
+  kind-at-reads.Learnt,
+  waiter-of-reads.Asked,
+  waiter-of-reads.Learnt,
   visit-below t,
   visit.Post,
 )
@@ -112,36 +112,22 @@ take-place : (t : ℕ) (c : take-lts.After-place-of (take-calls t) (take-at t) t
     c .place-of .result ≡ placeFrom (a .netlist .now) (a .s)
 take-place t c = c .place-of .ensures ∙ take-gate t (c .before .before .before .before .before) .place
 
-take-kind-at-requires : (t : ℕ) → take-lts.Need-kind-at-requires (take-calls t) (take-at t) take.Post
-take-kind-at-requires t c κs = search needs
-
-take-waiter-of-requires : (t : ℕ) → take-lts.Need-waiter-of-requires (take-calls t) (take-at t) take.Post
-take-waiter-of-requires t c κs = search needs
-
-take-wanted-behind-requires : (t : ℕ) → take-lts.Need-wanted-behind-requires (take-calls t) (take-at t) take.Post
-take-wanted-behind-requires t c κs =
-    let s = c .before .before .before .before .before .before .before in (s .pre .1 .0 .wanteds-are, omega (arith, take-few t s))
-
-take-pin-at-requires : (t : ℕ) → take-lts.Need-pin-at-requires (take-calls t) (take-at t) take.Post
-take-pin-at-requires t c κs = search needs
-
-take-cast-x : (t : ℕ) → take-lts.Need-cast-x (take-calls t) (take-at t) take.Post
-take-cast-x t c = search needs
+take-pin-in-requires : (t : ℕ) → take-lts.Need-pin-in-requires (take-calls t) (take-at t) take.Post
+take-pin-in-requires t c κs =
+    let s = c .before .before .before .before .before in
+    omega (arith, take-place t c, s .pre .1 .0 .inside _ (take-gate t s .gate), s .pre .1 .1)
 
 -- the signal that the pin is on
-take-on : (t : ℕ) (c : take-lts.After-pin-at (take-calls t) (take-at t) take.Post)
-    → let a = c .before .before .before .before .before .before .before .before .before .args in
-    c .pin-at .result ≡ getD (pinsFrom (a .netlist .now) (a .s)) (a .next) 0
+take-on : (t : ℕ) (c : take-lts.After-pin-in (take-calls t) (take-at t) take.Post) → let a = c .before .before .before .before .before .before .args in
+    c .pin-in .result ≡ getD (pinsFrom (a .netlist .now) (a .s)) (a .next) 0
 take-on t c =
-    let s = c .before .before .before .before .before .before .before .before .before in
+    let s = c .before .before .before .before .before .before in
     let a = s .args in
-    c .pin-at .ensures ∙ ap (λ p. pinAt (a .netlist .now) p (a .next)) (take-place t (c .before .before .before .before))
-    ∙ pin-is (a .netlist .now) (a .s) (a .next) (s .pre .1 .1 .2)
+    c .pin-in .ensures ∙ ap (λ p. pinAt (a .netlist .now) p (a .next)) (take-place t (c .before)) ∙ pin-is (a .netlist .now) (a .s) (a .next) (s .pre .1 .1 .2)
 
-take-lower : (t : ℕ) (c : take-lts.After-pin-at (take-calls t) (take-at t) take.Post)
-    → c .pin-at .result < c .before .before .before .before .before .before .before .before .before .args .s
+take-lower : (t : ℕ) (c : take-lts.After-pin-in (take-calls t) (take-at t) take.Post) → c .pin-in .result < c .before .before .before .before .before .before .args .s
 take-lower t c =
-    let s = c .before .before .before .before .before .before .before .before .before in
+    let s = c .before .before .before .before .before .before in
     let a = s .args in
     let g = take-gate t s in
     omega (
@@ -151,17 +137,17 @@ take-lower t c =
     )
 
 take-add-keep : (t : ℕ) → take-lts.Need-add-keep (take-calls t) (take-at t) take.Post
-take-add-keep t c = omega (arith, take-few t (c .before .before .before .before .before .before .before .before .before .before))
+take-add-keep t c = omega (arith, take-few t (c .before .before .before .before .before .before .before))
 
 take-keep-requires : (t : ℕ) → take-lts.Need-keep-requires (take-calls t) (take-at t) take.Post
 take-keep-requires t c κs =
-    let s = c .before .before .before .before .before .before .before .before .before .before in
+    let s = c .before .before .before .before .before .before .before in
     (s .pre .1 .1 .1, omega (arith, take-few t s))
 
 take-driver-at-requires : (t : ℕ) → take-lts.Need-driver-at-requires (take-calls t) (take-at t) take.Post
 take-driver-at-requires t c κs =
     let x = c .before .before .before .before .before in
-    let s = x .before .before .before .before .before .before .before .before .before in
+    let s = x .before .before .before .before .before .before in
     let less = take-lower t x in (
       s .pre .1 .0 .images-are,
       (
@@ -181,60 +167,44 @@ take-enum-known-driver-2 t c = search needs
 
 -- what was found behind the pin
 module _ (t : ℕ) (c : take-lts.After-driver-at (take-calls t) (take-at t) take.Post) where
-  abbrev pin : take-lts.After-pin-at (take-calls t) (take-at t) take.Post
+  abbrev pin : take-lts.After-pin-in (take-calls t) (take-at t) take.Post
   pin = c .before .before .before .before .before .before
 
   abbrev begun : take-lts.Start (take-calls t) (take-at t) take.Post
-  begun = pin .before .before .before .before .before .before .before .before .before
+  begun = pin .before .before .before .before .before .before
 
   abbrev cells : List ℕ
   cells = c .before .before .before .before .keep .last .0
-
-  take-waits : waitingOf (pin .before .before .waiter-of .result) ≡ waits (opOf (kindFrom (begun .args .netlist .now) (begun .args .s))) (ofCode (begun .args .p))
-  take-waits =
-      pin .before .before .waiter-of .ensures
-      ∙ ap (λ k. waits (opOf (kindOf k)) (ofCode (begun .args .p)))
-      (pin .before .before .before .kind-at .ensures ∙ ap (kindAt (begun .args .netlist .now)) (take-place t (pin .before .before .before .before)))
-
-  take-wants : pin .before .wanted-behind .result
-      ≡ wantedFor (opOf (kindFrom (begun .args .netlist .now) (begun .args .s))) (inverts (kindFrom (begun .args .netlist .now) (begun .args .s)))
-      (ofCode (begun .args .p)) (ltb (begun .args .next + 1) (countFrom (begun .args .netlist .now) (begun .args .s))) (begun .args .wanted)
-  take-wants =
-      pin .before .wanted-behind .ensures
-      ∙ ap (λ q. wantedFor (opOf (kindOf (kindAt (begun .args .netlist .now) q))) (inverts (kindOf (kindAt (begun .args .netlist .now) q)))
-      (ofCode (begun .args .p)) (ltb (begun .args .next + 1) (countAt (begun .args .netlist .now) q)) (begun .args .wanted)) (take-place t (pin .before .before .before .before))
 
   take-told : (k : ℕ) → c .driver-at .result ≡ Told k
       → Takes (begun .args .netlist .now) (begun .args .known .now) (begun .args .s) (begun .args .p) (begun .args .next) (begun .args .wanted)
       (begun .args .cells .now) cells k
   take-told k e =
       let a = begun .args in
-      takes-told (a .netlist .now) (a .known .now) (a .s) (a .p) (a .next) (a .wanted) (a .cells .now) (pin .pin-at .result)
-      (pin .before .wanted-behind .result) (pin .before .before .waiter-of .result) cells (take-on t pin) take-wants take-waits
+      takes-told (a .netlist .now) (a .known .now) (a .s) (a .p) (a .next) (a .wanted) (a .cells .now) (pin .pin-in .result) cells (take-on t pin)
       (c .before .before .before .before .keep .ensures) k (sym e ∙ c .driver-at .ensures)
 
-  take-behind : (from first : ℕ) → c .driver-at .result ≡ Behind from first → (exit : List ℕ) (r : ℕ)
-      → Visits (begun .args .netlist .now) (begun .args .known .now) (pin .pin-at .result) from first (pin .before .wanted-behind .result)
-      (pin .before .before .waiter-of .result) cells exit r
-      → Takes (begun .args .netlist .now) (begun .args .known .now) (begun .args .s) (begun .args .p) (begun .args .next) (begun .args .wanted)
-      (begun .args .cells .now) exit r
-  take-behind from first e =
-      let a = begun .args in
-      takes-behind (a .netlist .now) (a .known .now) (a .s) (a .p) (a .next) (a .wanted) (a .cells .now) (pin .pin-at .result)
-      (pin .before .wanted-behind .result) (pin .before .before .waiter-of .result) cells (take-on t pin) take-wants take-waits
-      (c .before .before .before .before .keep .ensures) from first (sym e ∙ c .driver-at .ensures) (take-lower t pin)
-
-  take-searched : (from first : ℕ) → c .driver-at .result ≡ Behind from first → (8 ≤ getD (begun .args .known .now) (pin .pin-at .result) 0) × (first < 16)
+  take-searched : (from first : ℕ) → c .driver-at .result ≡ Behind from first → (8 ≤ getD (begun .args .known .now) (pin .pin-in .result) 0) × (first < 16)
   take-searched from first e =
-      behind-searched (begun .args .netlist .now) (begun .args .known .now) (pin .pin-at .result) cells from first
-      (omega (arith, c .before .before .slice-known2 .given (pin .pin-at .result))) (sym e ∙ c .driver-at .ensures)
+      behind-searched (begun .args .netlist .now) (begun .args .known .now) (pin .pin-in .result) cells from first
+      (omega (arith, c .before .before .slice-known2 .given (pin .pin-in .result))) (sym e ∙ c .driver-at .ensures)
+
+take-wanted-behind-requires : (t : ℕ) → take-lts.Need-wanted-behind-requires (take-calls t) (take-at t) take.Post
+take-wanted-behind-requires t c κs = let s = begun t (c .before .before .before .before) in (s .pre .1 .0 .wanteds-are, omega (arith, take-few t s))
+
+take-kind-at-requires : (t : ℕ) → take-lts.Need-kind-at-requires (take-calls t) (take-at t) take.Post
+take-kind-at-requires t c κs = search needs
+
+take-waiter-of-requires : (t : ℕ) → take-lts.Need-waiter-of-requires (take-calls t) (take-at t) take.Post
+take-waiter-of-requires t c κs = search needs
 
 take-visit-requires : (t : ℕ) → take-lts.Need-visit-requires (take-calls t) (take-at t) take.Post
 take-visit-requires t c κs =
-    let d = c .before .before .before .before in
+    let v = c .before .before .before .before in
+    let d = v .before .before .before in
     let s = begun t d in
     let less = take-lower t (pin t d) in
-    let searched = take-searched t d _ _ (c .before .before .driver2 .given .1) in
+    let searched = take-searched t d _ _ (v .before .driver2 .given .1) in
     (omega (arith, s .pre .0), (s .pre .1 .0, (searched .0, omega (arith, s .pre .1 .1, d .before .before .before .before .keep .kept .0), searched .1)))
 
 take-same-length : (t : ℕ) → take-lts.Need-same-length (take-calls t) (take-at t) take.Post
@@ -248,9 +218,18 @@ take-same-length-2 t c = search needs
 
 take-returns-2 : (t : ℕ) → take-lts.Need-returns-2 (take-calls t) (take-at t) take.Post
 take-returns-2 t c =
-    let v = c .before .before in
-    let d = v .before .before .before .before .before in
-    take-behind t d _ _ (v .before .before .before .driver2 .given .1) _ _ (v .visit .ensures)
+    let w = c .before .before .before in
+    let d = w .before .before .before .before .before .before .before in
+    let a = begun t d .args in
+    let place = take-place t (pin t d .before) in
+    takes-behind (a .netlist .now) (a .known .now) (a .s) (a .p) (a .next) (a .wanted) (a .cells .now) (pin t d .pin-in .result) (cells t d)
+    (take-on t (pin t d)) (d .before .before .before .before .keep .ensures) _ _ (sym (w .before .before .before .before .before .driver2 .given .1) ∙ d .driver-at .ensures)
+    (take-lower t (pin t d)) _ _
+    (w .before .before .wanted-behind .ensures
+    ∙ ap (λ q. wantedFor (opOf (kindOf (kindAt (a .netlist .now) q))) (inverts (kindOf (kindAt (a .netlist .now) q))) (ofCode (a .p))
+    (ltb (a .next + 1) (countAt (a .netlist .now) q)) (a .wanted)) place)
+    (w .waiter-of .ensures ∙ ap (λ k. waits (opOf (kindOf k)) (ofCode (a .p))) (w .before .kind-at .ensures ∙ ap (kindAt (a .netlist .now)) place)) _ _
+    (c .before .before .visit .ensures)
 
 abbrev visit-Inv-loop : visit-lts.InvT-loop
 visit-Inv-loop images wanteds netlist places known cells₀ inputs s from first wanted waiter place kind count p₀ next₀ cells p next =
@@ -429,16 +408,15 @@ pub +take+visit-spec : {M : Type 1} → statement M
     (take-at t)
     take.Post
     (take-place-of-requires t)
-    (take-kind-at-requires t)
-    (take-waiter-of-requires t)
-    (take-wanted-behind-requires t)
-    (take-pin-at-requires t)
-    (take-cast-x t)
+    (take-pin-in-requires t)
     (take-add-keep t)
     (take-keep-requires t)
     (take-driver-at-requires t)
     (take-enum-known-driver t)
     (take-enum-known-driver-2 t)
+    (take-wanted-behind-requires t)
+    (take-kind-at-requires t)
+    (take-waiter-of-requires t)
     (take-visit-requires t)
     (take-same-length t)
     (take-returns t)

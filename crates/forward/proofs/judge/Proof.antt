@@ -1,12 +1,13 @@
 -- `forward::judge` meets its contract: classes, the touched count, marks, searches. Assumes nothing.
+use native.Mathlib.Omega.{arith}
 use mathlib.Core.Path.{_∙_, ap}
 use Rattle.netlist.proofs.Accepted.{formed}
 use Rattle.changes.specs.Changes.{written}
 use Rattle.changes.proofs.Accepted.{listed}
+use Rattle.core.specs.Outputs.{byteFrom, sumFrom}
 use Rattle.simulate.proofs.Laws.{spreads}
 use Rattle.simulate.proofs.Answers.{ready}
 use Rattle.forward.specs.Known.{touchedBy, knownCodes}
-use Rattle.forward.specs.Outputs.{byteFrom, visitedFrom}
 use Rattle.forward.proofs.Changes.{signals-high, touched-is, filled-room, visited-is, bytes-are, searchable}
 use borrow.Author.Needs.{needs}
 use Rattle.forward.proofs.judge.Statement.{statement}
@@ -47,32 +48,37 @@ mark-unknown-requires c κs =
 slice-aggregate-search-outputs : tie.Need-slice-aggregate-search-outputs
 slice-aggregate-search-outputs c = search needs
 
+slice-aggregate-search-outputs-2 : tie.Need-slice-aggregate-search-outputs-2
+slice-aggregate-search-outputs-2 c = search needs
+
 search-outputs-requires : tie.Need-search-outputs-requires
 search-outputs-requires c κs =
-    let s = c .before .before .before .before .before .before .before .before .before .before .before .before .before .before in
+    let s = c .before .before .before .before .before .before .before .before .before .before .before .before .before .before .before in
     let a = s .args in
-    searchable (a .netlist .now) (a .list .now) (s .pre .of .accepted) (a .change) _
-    (c .before .before .before .mark-unknown .ensures ∙ ap (λ codes. knownCodes codes (a .inputs) (a .gates))
-    (c .before .before .before .before .before .before .before .before .classify .ensures))
+    let r = searchable (a .netlist .now) (a .list .now) (s .pre .of .accepted) (a .change) _
+    (c .before .before .before .before .mark-unknown .ensures ∙ ap (λ codes. knownCodes codes (a .inputs) (a .gates))
+    (c .before .before .before .before .before .before .before .before .before .classify .ensures))
     _ _ _ (s .pre .rest) (s .pre .images-are)
     (s .pre .wanteds-are) (s .pre .places-are) _ (s .pre .of .enough)
+    in
+    (r, omega (arith, r .signals-high))
 
 same-length : tie.Need-same-length
 same-length c = search needs
 
 returns : tie.Need-returns
 returns c =
-    let s = c .before .before .before .before .before .before .before .before .before .before .before .before .before .before .before .before .before in
+    let s = c .before .before .before .before .before .before .before .before .before .before .before .before .before .before .before .before .before .before .before in
     let a = s .args in
     let n = a .netlist .now in
     let l = a .list .now in
-    let filled = c .before .before .before .before .before .before .before .before .before .before .before .classify .ensures in
-    let marked = c .before .before .before .before .before .before .mark-unknown .ensures ∙ ap (λ codes. knownCodes codes (a .inputs) (a .gates)) filled in (
-      c .before .before .before .before .before .before .before .before .count-touched .ensures
+    let filled = c .before .before .before .before .before .before .before .before .before .before .before .before .before .classify .ensures in
+    let marked = c .before .before .before .before .before .before .before .before .mark-unknown .ensures ∙ ap (λ codes. knownCodes codes (a .inputs) (a .gates)) filled in (
+      c .before .before .before .before .before .before .before .before .before .before .count-touched .ensures
           ∙ ap (λ codes. touchedBy n codes (a .gates)) filled ∙ touched-is n l (s .pre .of .accepted) (a .change),
-      c .before .before .search-outputs .ensures .0 ∙ ap (λ known. visitedFrom n known (a .entries) (a .outputs)) marked
+      c .before .before .before .search-outputs .ensures .0 ∙ ap (λ known. sumFrom (λ a. a .gates) n known (a .entries) (a .outputs)) marked
           ∙ visited-is n l (s .pre .of .accepted) (a .change),
-      c .before .before .search-outputs .ensures .1 ∙ ap (λ known. written (a .buffer .now) 0 (byteFrom n known (a .entries)) (a .outputs)) marked
+      c .before .before .before .search-outputs .ensures .2 ∙ ap (λ known. written (a .buffer .now) 0 (byteFrom n known (a .entries)) (a .outputs)) marked
           ∙ bytes-are n l (s .pre .of .accepted) (a .change) (a .buffer .now),
     )
 
@@ -87,6 +93,7 @@ judge-spec =
     slice-aggregate-mark-unknown
     mark-unknown-requires
     slice-aggregate-search-outputs
+    slice-aggregate-search-outputs-2
     search-outputs-requires
     same-length
     returns)

@@ -1,21 +1,41 @@
--- `kung::preimage_of` meets its contract: the table has the preimage at its place. Assumes nothing.
-use mathlib.Core.Path.{_∙_, ap, ap₂}
-use lib.ListN.{getD}
-use Rattle.kung.proofs.Places.{preimage-at}
+-- `kung::preimage_of` meets its contract: it has a block. Assumes nothing.
+use mathlib.Core.Path.{_∙_}
+use native.Mathlib.Omega.{arith}
+use Prim.Native.Nat.{_+_, _*_}
+use Rattle.kung.specs.Tables.{blockRule}
+use Rattle.kung.proofs.Places.{preimage-block}
 use borrow.Author.Needs.{needs}
 use Rattle.kung.proofs.preimage_of.Statement.{statement}
 use Rattle.kung.proofs.preimage_of.Tie as tie
 
-place-requires : tie.Need-place-requires
-place-requires c κs = search needs
+wide-requires : tie.Need-wide-requires
+wide-requires c κs = search needs
 
-element-copy-out-result : tie.Need-element-copy-out-result
-element-copy-out-result c = search needs
+mul-in-block : tie.Need-mul-in-block
+mul-in-block c = search needs
+
+wide-requires-2 : tie.Need-wide-requires-2
+wide-requires-2 c κs = search needs
+
+add-in-block : tie.Need-add-in-block
+add-in-block c = search needs
+
+in-block-requires : tie.Need-in-block-requires
+in-block-requires c κs = (c .before .before .pre, omega (arith, c .before .wide .ensures, c .wide2 .ensures))
 
 returns : tie.Need-returns
 returns c =
-    ap₂ (λ t k. getD t k 0) (c .before .before .pre) (c .before .place .ensures)
-    ∙ preimage-at (c .before .before .args .operation) (c .before .before .args .p) (c .before .before .args .set) (search needs)
+    let a = c .before .before .before .args in
+    c .in-block .ensures ∙ (λ i. blockRule (c .before .before .wide .ensures i * 8 + c .before .wide2 .ensures i) (a .set))
+    ∙ preimage-block (a .operation) (a .p) (a .set)
 
 pub preimage-of-spec : {M : Type 1} → statement M
-preimage-of-spec = tie.close (tie.spec place-requires element-copy-out-result returns)
+preimage-of-spec =
+    tie.close
+    (tie.spec
+    wide-requires
+    mul-in-block
+    wide-requires-2
+    add-in-block
+    in-block-requires
+    returns)

@@ -1,8 +1,9 @@
--- `kung::reach_of` meets its contract. Assumes nothing.
-use mathlib.Core.Path.{_∙_, ap, ap₂}
-use lib.ListN.{getD}
-use Prim.Native.Nat.{_+_, _*_}
-use Rattle.kung.proofs.Places.{reach-at}
+-- `kung::reach_of` meets its contract: it has a block. Assumes nothing.
+use mathlib.Core.Path.{_∙_}
+use native.Mathlib.Omega.{arith}
+use Prim.Native.Nat.{_+_}
+use Rattle.kung.specs.Tables.{blockRule}
+use Rattle.kung.proofs.Places.{reach-block}
 use borrow.Author.Needs.{needs}
 use Rattle.kung.proofs.reach_of.Statement.{statement}
 use Rattle.kung.proofs.reach_of.Tie as tie
@@ -10,35 +11,22 @@ use Rattle.kung.proofs.reach_of.Tie as tie
 wide-requires : tie.Need-wide-requires
 wide-requires c κs = search needs
 
-mul-result : tie.Need-mul-result
-mul-result c = search needs
+add-in-block : tie.Need-add-in-block
+add-in-block c = search needs
 
-add-result : tie.Need-add-result
-add-result c = search needs
-
-wide-requires-2 : tie.Need-wide-requires-2
-wide-requires-2 c κs = search needs
-
-add-result-2 : tie.Need-add-result-2
-add-result-2 c = search needs
-
-element-copy-out-result : tie.Need-element-copy-out-result
-element-copy-out-result c = search needs
+in-block-requires : tie.Need-in-block-requires
+in-block-requires c κs = (c .before .pre, omega (arith, c .wide .ensures))
 
 returns : tie.Need-returns
 returns c =
-    let a = c .before .before .before .args in
-    (λ i. getD (c .before .before .before .pre i) (4096 + c .before .before .wide .ensures i * 256 + c .before .wide2 .ensures i) 0)
-    ∙ reach-at (a .operation) (a .set) (search needs)
+    let a = c .before .before .args in
+    c .in-block .ensures ∙ (λ i. blockRule (16 + c .before .wide .ensures i) (a .set)) ∙ reach-block (a .operation) (a .set)
 
 pub reach-of-spec : {M : Type 1} → statement M
 reach-of-spec =
     tie.close
     (tie.spec
     wide-requires
-    mul-result
-    add-result
-    wide-requires-2
-    add-result-2
-    element-copy-out-result
+    add-in-block
+    in-block-requires
     returns)

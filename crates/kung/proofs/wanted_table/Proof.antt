@@ -4,12 +4,12 @@ use Rattle.kung.specs.Class.{ofCode}
 use Rattle.kung.specs.Rule.{each, some, andAll, orAll}
 use Rattle.kung.specs.Operation.{join, joinAll}
 use Rattle.kung.specs.Sets.{setOf, has}
-use Rattle.kung.specs.Tables.{tab, wantedRule, wantedTable, preimage, reach}
+use Rattle.kung.specs.Tables.{tab, blockRule, halfSet, wantedRule, wantedTable, preimage, reach}
 use Rattle.kung.proofs.wanted_table.Statement.{statement}
 use Rattle.kung.proofs.wanted_table.Tie as tie
 
 returns : tie.Need-returns
-unfolding wantedTable tab wantedRule preimage reach setOf has some each join joinAll andAll orAll ofCode
+unfolding wantedTable tab wantedRule blockRule halfSet preimage reach setOf has some each join joinAll andAll orAll ofCode
 returns c = refl
 
 pub wanted-table-spec : {M : Type 1} → statement M

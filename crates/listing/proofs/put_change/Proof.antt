@@ -27,8 +27,9 @@ known : (c : tie.After-fill-inputs) → let a = c .before .before .before .befor
 known c =
     let s = c .before .before .before .before .before .before in
     let a = s .args in
-    known-is (a .netlist .now) (a .list .now) (a .sizes .width) (a .change) (card-formed _ _ (s .pre .0 .sizes-are) (a .change) (s .pre .1 .0))
-    (list-formed _ _ (s .pre .0 .sizes-are) (a .change) (s .pre .1 .0) .width-is) _ (c .fill-inputs .ensures)
+    let f = card-formed _ _ (s .pre .0 .sizes-are) (a .change) (s .pre .1 .0) in
+    known-is (a .netlist .now) (a .list .now) (a .sizes .width) (a .change) f (list-formed _ _ (s .pre .0 .sizes-are) (a .change) (s .pre .1 .0) .width-is)
+    2304 (omega (arith, f .inputs-high, f .gates-high)) _ (c .fill-inputs .ensures)
 
 -- the lines made from them and from the classes are the change's
 lines : (c : tie.After-classify) → let f = c .before .before .before in

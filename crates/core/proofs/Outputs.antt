@@ -1,5 +1,5 @@
 -- Laws of the outputs' searches. Assumes nothing.
-use Prim.Native.Nat.{ℕ, suc, _+_, _*_, _≤_, _<_}
+use Prim.Native.Nat.{ℕ, zero, suc, _+_, _*_, _≤_, _<_}
 use native.Mathlib.Omega.{arith}
 use native.Mathlib.Nat.{zero-add, add-comm}
 use native.Mathlib.Numerals.{add-one}
@@ -13,17 +13,18 @@ use Rattle.kung.specs.Sets.{setOf}
 use Rattle.kung.specs.Operation.{opOf, unit}
 use Rattle.circuit.specs.Circuit.{Source, given, gate}
 use Rattle.netlist.specs.Words.{wordAt}
+use Rattle.netlist.specs.Netlist.{gatesOf, countAt, placeOf, pinsBelow}
 use Rattle.changes.specs.Changes.{written}
 use Rattle.changes.proofs.Laws.{written-more}
 use Rattle.search.specs.Search as search
-use Rattle.search.specs.Search.{search, visit, begin, fresh, nobody, total, gatesVisited}
+use Rattle.search.specs.Search.{Answer, search, visit, begin, fresh, nobody, total, gatesVisited}
 use Rattle.search.specs.Pins.{sumBelow}
 use Rattle.search.proofs.Writes.{visit-length}
-use Rattle.core.specs.Source.{sourceFrom}
+use Rattle.core.specs.Source.{sourceFrom, Ready}
 use Rattle.core.specs.Found.{foundOf, verdictCode}
 use Rattle.core.specs.declared.Found.{Found}
-use Rattle.forward.specs.Forward.{verdictByte}
-use Rattle.forward.specs.Outputs.{byteOf, searchFrom, byteFrom, visitedFrom}
+use Rattle.core.specs.Outputs.{verdictByte, byteOf, searchFrom, byteFrom, sumFrom}
+use Rattle.core.proofs.Cards.{search-within}
 
 -- a search visits no more gates than it has cells
 visited-few : (cells : List ℕ) → gatesVisited cells ≤ length cells
@@ -35,7 +36,7 @@ visited-few (b ∷ cells) = go (ltb b 128) (visited-few cells)
     go true h = omega arith
     go false h = omega arith
 
-search-few : (src : ℕ → Source Class) (w s : ℕ) → (search src w s) .gates ≤ suc s
+pub search-few : (src : ℕ → Source Class) (w s : ℕ) → (search src w s) .gates ≤ suc s
 unfolding search
 search-few src w s = go (src s)
   where
@@ -49,6 +50,22 @@ search-few src w s = go (src s)
           length-replicate {A = ℕ} (suc s) 0,
         )
 
+-- and takes no more than eight pins of each
+pins-few : (netlist : List ℕ) (g : ℕ) → ((k : ℕ) → k < g → countAt netlist (placeOf netlist k) ≤ 8) → pinsBelow netlist g ≤ 8 * g
+unfolding pinsBelow
+pins-few netlist zero h = omega arith
+pins-few netlist (suc g) h = omega (arith, pins-few netlist g (λ k l. h k (omega arith)), h g (omega arith))
+
+taken-few : {images wanteds netlist places known : List ℕ} {inputs : ℕ} → Ready images wanteds netlist places known inputs
+    → (w s : ℕ) → (search (sourceFrom netlist known) w s) .pins ≤ 8 * 2304
+taken-few {netlist = netlist} {known = known} r w s =
+    omega (
+      arith,
+      search-within netlist known (r .indexed .gates-only) w s,
+      pins-few netlist (gatesOf netlist) (r .few-pins),
+      r .few-signals,
+    )
+
 byte-code : (v : search.Verdict) → byteOf (verdictCode v) ≡ verdictByte v
 byte-code (search.clean k) = refl
 byte-code search.hazardous = refl
@@ -56,16 +73,18 @@ byte-code search.hazardous = refl
 -- what is found of output o
 module _ (netlist known : List ℕ) (entries o s : ℕ) (at : s ≡ wordAt netlist (entries + 2 * o)) (found : Found)
     (is : found ≡ foundOf (search (sourceFrom netlist known) 15 s)) where
-  found-is : found ≡ foundOf (searchFrom netlist known entries o)
+  pub found-is : found ≡ foundOf (searchFrom netlist known entries o)
   unfolding searchFrom setOf
   found-is = is ∙ ap (λ s. foundOf (search (sourceFrom netlist known) 15 s)) at
 
-  pub found-few : found .gates ≤ suc s
-  found-few = rw is (search-few (sourceFrom netlist known) 15 s)
+  pub found-few : {images wanteds places : List ℕ} {inputs : ℕ} → Ready images wanteds netlist places known inputs
+      → (found .gates ≤ suc s) × (found .pins ≤ 8 * 2304)
+  found-few r = rw is (search-few (sourceFrom netlist known) 15 s, taken-few r 15 s)
 
-  pub found-next : (visited : ℕ) → visited ≡ visitedFrom netlist known entries o → visited + found .gates ≡ visitedFrom netlist known entries (o + 1)
+  pub found-next : (count : Answer → ℕ) (sum more : ℕ) → sum ≡ sumFrom count netlist known entries o → more ≡ count (searchFrom netlist known entries o)
+      → sum + more ≡ sumFrom count netlist known entries (o + 1)
   unfolding sumBelow
-  found-next visited e = rw (e, add-one o, found-is) (add-comm _ _)
+  found-next count sum more e m = rw (e, m, add-one o) (add-comm _ _)
 
   pub found-byte : (old now : List ℕ) → now ≡ written old 0 (byteFrom netlist known entries) o → o < length old
       → (byte : ℕ) → byte ≡ byteOf (found .verdict)

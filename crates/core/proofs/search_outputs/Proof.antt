@@ -1,0 +1,125 @@
+-- `core::search_outputs` meets its contract. The loop's invariant: the first outputs are searched, their bytes written, their gates and pins summed.
+-- Assumes nothing.
+use Prim.Native.Nat.{_-_, _*_, _≤_}
+use native.Mathlib.Omega.{arith}
+use mathlib.Core.Path.{_≡_, refl, _∙_, ap}
+use lib.ListN.{length}
+use Rattle.changes.specs.Changes.{written}
+use Rattle.changes.proofs.Laws.{written-none, written-kept}
+use Rattle.search.specs.Pins.{sumBelow}
+use Rattle.core.specs.Outputs.{byteFrom, sumFrom}
+use Rattle.core.proofs.Outputs.{found-is, found-few, found-next, found-byte}
+use borrow.Author.Needs.{needs}
+use Rattle.core.proofs.search_outputs.Statement.{statement}
+use Rattle.core.proofs.search_outputs.Tie as tie
+
+abbrev Inv-loop : tie.InvT-loop
+Inv-loop images wanteds netlist places known cells₀ inputs outputs entries buffer₀ gates₀ pins₀ output₀ cells buffer gates pins output =
+    (output ≤ outputs) × (gates ≡ sumFrom (λ a. a .gates) netlist known entries output) × (pins ≡ sumFrom (λ a. a .pins) netlist known entries output)
+    × (gates ≤ 18432 * output) × (pins ≤ 18432 * output) × (buffer ≡ written buffer₀ 0 (byteFrom netlist known entries) output) × (length cells ≡ length cells₀)
+
+abbrev μ-loop : tie.MeasureT-loop
+μ-loop images wanteds netlist places known cells₀ inputs outputs entries buffer₀ gates₀ pins₀ output₀ cells buffer gates pins output =
+    outputs - output
+
+-- the bytes keep their number
+kept : (c : tie.At-loop Inv-loop μ-loop) → length (c .loop .buffer) ≡ length (c .before .before .before .before .before .before .args .buffer .now)
+kept c = ap length (c .loop .inv .5) ∙ written-kept _ _ _ _ (omega (arith, c .before .before .before .before .before .before .pre .0 .enough))
+
+loop-holds : tie.Need-loop-holds Inv-loop μ-loop
+unfolding sumBelow
+loop-holds c = (search needs, refl, refl, search needs, search needs, written-none _ _ _, refl)
+
+entry-at-requires : tie.Need-entry-at-requires Inv-loop μ-loop
+entry-at-requires c κs = search needs
+
+cast-signal : tie.Need-cast-signal Inv-loop μ-loop
+cast-signal c = search needs
+
+find-requires : tie.Need-find-requires Inv-loop μ-loop
+find-requires c κs =
+    let p = c .before .before .before .before .before .before .before .before .before .pre in
+    let l = c .before .before .before .loop in
+    let below = p .0 .output-below (l .output) (c .before .before .loop-test .taken) in
+    (p .0 .ready, (omega (arith, c .before .entry-at .ensures), omega (arith, c .before .entry-at .ensures, p .1, l .inv .6)))
+
+byte-of-requires : tie.Need-byte-of-requires Inv-loop μ-loop
+byte-of-requires c κs = search needs
+
+slice-write-buffer : tie.Need-slice-write-buffer Inv-loop μ-loop
+slice-write-buffer c =
+    let l = c .before .before .before .before .before .before .before in
+    omega (arith, kept l, l .before .before .before .before .before .before .pre .0 .enough)
+
+-- a search visits no more gates than there are signals, and takes no more than eight pins of each
+few : (c : tie.After-find Inv-loop μ-loop) → (c .find .result .gates ≤ 18432) × (c .find .result .pins ≤ 18432)
+few c =
+    let l = c .before .before .before .before in
+    let p = l .before .before .before .before .before .before .pre .0 in
+    let at = c .before .before .entry-at .ensures in
+    let most = found-few _ _ _ _ _ at _ (c .find .ensures) (p .ready) in
+    (omega (arith, at, p .signals-high, p .output-below (l .loop .output) (c .before .before .before .loop-test .taken), most .0), most .1)
+
+add-gates : tie.Need-add-gates Inv-loop μ-loop
+add-gates c =
+    let f = c .before .before .before .before in
+    omega (arith, f .before .before .before .before .before .before .before .before .before .before .pre .0 .outputs-high, few f .0)
+
+add-pins : tie.Need-add-pins Inv-loop μ-loop
+add-pins c =
+    let f = c .before .before .before .before .before in
+    omega (arith, f .before .before .before .before .before .before .before .before .before .before .pre .0 .outputs-high, few f .1)
+
+add-output : tie.Need-add-output Inv-loop μ-loop
+add-output c = search needs
+
+loop-less : tie.Need-loop-less Inv-loop μ-loop
+loop-less c = search needs
+
+loop-again : tie.Need-loop-again Inv-loop μ-loop
+loop-again c =
+    let f = c .before .before .before .before .before in
+    let l = f .before .before .before .before in
+    let b = l .before .before .before .before .before .before in
+    let at = f .before .before .entry-at .ensures in
+    let is = found-is _ _ _ _ _ at _ (f .find .ensures) in (
+      search needs,
+      found-next _ _ _ _ _ at _ (f .find .ensures) (λ a. a .gates) _ _ (l .loop .inv .1) (ap (λ f. f .gates) is),
+      found-next _ _ _ _ _ at _ (f .find .ensures) (λ a. a .pins) _ _ (l .loop .inv .2) (ap (λ f. f .pins) is),
+      omega (arith, few f .0),
+      omega (arith, few f .1),
+      found-byte _ _ _ _ _ at _ (f .find .ensures) _ _ (l .loop .inv .5) (omega (arith, b .pre .0 .enough)) _ (c .before .before .byte-of .ensures),
+      search needs,
+    )
+
+same-length : tie.Need-same-length Inv-loop μ-loop
+same-length c = c .before .loop .inv .6
+
+same-length-2 : tie.Need-same-length-2 Inv-loop μ-loop
+same-length-2 c = kept (c .before)
+
+returns : tie.Need-returns Inv-loop μ-loop
+returns c =
+    let e : c .before .loop .output ≡ c .before .before .before .before .before .before .before .args .outputs = search needs in
+    rw (← e) (c .before .loop .inv .1, c .before .loop .inv .2, c .before .loop .inv .5)
+
+pub search-outputs-spec : {M : Type 1} → statement M
+search-outputs-spec =
+    tie.close
+    (tie.spec
+    Inv-loop
+    μ-loop
+    loop-holds
+    entry-at-requires
+    cast-signal
+    find-requires
+    byte-of-requires
+    slice-write-buffer
+    add-gates
+    add-pins
+    add-output
+    loop-less
+    loop-again
+    same-length
+    same-length-2
+    returns)
