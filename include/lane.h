@@ -16,8 +16,8 @@
  *   is NULL.
  * - `answer` has room for five words.
  * - Buffer and answer overlap neither each other nor netlist and list.
- * - lane_core and lane_forward go as deep as the card does: have 1 MB of stack
- *   free.
+ * - lane_core, lane_forward and their _all forms go as deep as the card does:
+ *   have 1 MB of stack free.
  * Nothing is asked of the bytes themselves: each call checks them first.
  *
  * What every call gives
@@ -46,6 +46,10 @@ enum lane_limit {
     LANE_MAX_CHANGES = 1000,
     /* I + G: a buffer of this length suits lane_full on every card. */
     LANE_MAX_SIGNALS = LANE_MAX_INPUTS + LANE_MAX_GATES,
+    /* T * (I + G) and T * O: buffers of these lengths suit lane_full_all, and
+       lane_forward_all and lane_core_all, on every card and list. */
+    LANE_MAX_CLASSES = LANE_MAX_CHANGES * LANE_MAX_SIGNALS,
+    LANE_MAX_VERDICTS = LANE_MAX_CHANGES * LANE_MAX_OUTPUTS,
     /* The longest netlist and the longest list, in bytes. */
     LANE_MAX_NETLIST = 37003,
     LANE_MAX_LIST = 64011,
@@ -68,7 +72,8 @@ enum lane_class {
     LANE_D_MINUS = 7 /* falls, with extra pulses */
 };
 
-/* The verdict of an output, in answer[0] of lane_core and in each byte of lane_forward. */
+/* The verdict of an output, in answer[0] of lane_core and in each byte of lane_forward,
+   lane_forward_all and lane_core_all. */
 enum lane_verdict {
     LANE_CLEAN = 0,
     LANE_HAZARDOUS = 1
@@ -91,6 +96,7 @@ enum lane_operation {
  *     lane_full      1 to 18, 20
  *     lane_forward   1 to 18, 20
  *     lane_core      1 to 19, 21
+ *     lane_full_all, lane_forward_all, lane_core_all   1 to 17, 20
  *
  * In the netlist all of 1 to 4 come first; then 5 to 8 for record after record,
  * in each record in the order 5 (no two bytes left), 6, 7, 5 (pins cut off), 8;
@@ -203,6 +209,56 @@ uint32_t lane_forward(const uint8_t *netlist, size_t netlist_len,
                       size_t change,
                       uint8_t *buffer, size_t buffer_len,
                       uint64_t answer[5]);
+
+/*
+ * All changes of a list in one call each, for which netlist and list are checked
+ * once. The buffer gets a row for each change, in order, with no gap between:
+ * what the call for that one change gives. With T = 0 nothing is written.
+ * Each answers with [0] T and [1] the bytes of a row, so that a loader needs no
+ * other call.
+ *
+ * Full simulation of all changes.
+ *
+ *   buffer, buffer_len     gets T rows of I + G classes (enum lane_class): signal
+ *                          s in change t is buffer[t * (I + G) + s]
+ *
+ * answer: [0] T, [1] I + G
+ * Refusals 1 to 17, then 20 where buffer_len is below T * (I + G).
+ */
+uint32_t lane_full_all(const uint8_t *netlist, size_t netlist_len,
+                       const uint8_t *list, size_t list_len,
+                       uint8_t *buffer, size_t buffer_len,
+                       uint64_t answer[5]);
+
+/*
+ * The forward method on all changes.
+ *
+ *   buffer, buffer_len     gets T rows of O verdicts (enum lane_verdict): output
+ *                          o in change t is buffer[t * O + o]
+ *
+ * answer: [0] T, [1] O, [2] gates touched, summed over the changes, [3] gates
+ *         visited, summed over the changes and outputs
+ * Refusals 1 to 17, then 20 where buffer_len is below T * O.
+ */
+uint32_t lane_forward_all(const uint8_t *netlist, size_t netlist_len,
+                          const uint8_t *list, size_t list_len,
+                          uint8_t *buffer, size_t buffer_len,
+                          uint64_t answer[5]);
+
+/*
+ * CORE on all outputs in all changes.
+ *
+ *   buffer, buffer_len     gets T rows of O verdicts (enum lane_verdict): output
+ *                          o in change t is buffer[t * O + o]
+ *
+ * answer: [0] T, [1] O, [2] gates visited, [3] pins taken, each summed over the
+ *         changes and outputs
+ * Refusals 1 to 17, then 20 where buffer_len is below T * O.
+ */
+uint32_t lane_core_all(const uint8_t *netlist, size_t netlist_len,
+                       const uint8_t *list, size_t list_len,
+                       uint8_t *buffer, size_t buffer_len,
+                       uint64_t answer[5]);
 
 /*
  * The class of an AND or OR of two pins with classes a and b. Of the operation

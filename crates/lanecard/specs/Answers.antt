@@ -2,6 +2,9 @@
 use Prim.Native.Nat.{ℕ}
 use mathlib.Core.Path.{_≡_}
 use mathlib.Core.List.{List, [], _∷_}
+use Rattle.batch.specs.declared.Judged.{Judged}
+use Rattle.batch.specs.declared.Judged.the-variants as batch
+use Rattle.batch.specs.Batch.{Method, allAnswer, allBuffer}
 use Rattle.netlist.specs.declared.Checked.{Checked}
 use Rattle.netlist.specs.declared.Checked.the-variants as netlist
 use Rattle.changes.specs.declared.Listed.{Listed}
@@ -60,3 +63,14 @@ pub record ForwardedOf (n l : List ℕ) (change : ℕ) (entry exit : List ℕ) (
   pub number-is : number ≡ forwardedAnswer (forwardAnswer n l change entry) .number
   pub words-are : words ≡ forwardedAnswer (forwardAnswer n l change entry) .words
   pub bytes-are : exit ≡ forwardBuffer n l change entry
+
+-- the changes, the bytes of each, and a method's two counts over all changes
+unfoldable pub judgedAnswer : Judged → Answer
+judgedAnswer (batch.Done changes width first second) = accepted changes width first second 0
+judgedAnswer (batch.Refused number place) = refused number place
+
+-- a method's number, words and lent bytes for all changes of a list
+pub record AllJudged (m : Method) (n l : List ℕ) (entry exit : List ℕ) (number : ℕ) (words : List ℕ) : Type 0 where
+  pub number-is : number ≡ judgedAnswer (allAnswer m n l entry) .number
+  pub words-are : words ≡ judgedAnswer (allAnswer m n l entry) .words
+  pub bytes-are : exit ≡ allBuffer m n l entry

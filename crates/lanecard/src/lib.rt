@@ -7,7 +7,9 @@ ghost use Rattle.kung.specs.Operation.{join, opAt};
 ghost use Rattle.netlist.specs.Netlist.{checked};
 ghost use Rattle.changes.specs.Refusals.{listChecked};
 ghost use Rattle.core.specs.Core.{coreAnswer};
-ghost use Rattle.lanecard.specs.Answers.{netlistAnswer, listAnswer, Fulled, coredAnswer, ForwardedOf};
+ghost use Rattle.batch.specs.Batch.{fullOf, forwardOf, coreOf};
+ghost use Rattle.lanecard.specs.Answers.{netlistAnswer, listAnswer, Fulled, coredAnswer, ForwardedOf, judgedAnswer, AllJudged};
+use batch::Judged;
 use changes::Listed;
 use core::Cored;
 use forward::Forwarded;
@@ -148,4 +150,61 @@ pub extern "C" fn lane_forward(
             0
         }
     }
+}
+
+// The answer for all changes of a list, in words.
+fn put_judged(answer: &mut [u64; 5], judged: Judged) -> u32
+    ensures { λ r. ⌜ (r ≡ judgedAnswer judged .number) × (now (answer .exit) ≡ judgedAnswer judged .words) ⌝ }
+{
+    match judged {
+        Judged::Refused(number, place) => refuse(answer, number, place),
+        Judged::Done {
+            changes,
+            width,
+            first,
+            second,
+        } => {
+            put(answer, changes, width, first, second, 0);
+            0
+        }
+    }
+}
+
+#[no_mangle]
+pub extern "C" fn lane_full_all(
+    netlist: &[u8],
+    list: &[u8],
+    buffer: &mut [u8],
+    answer: &mut [u64; 5],
+) -> u32
+    ensures { λ r. ⌜ AllJudged (fullOf (now (netlist .entry)) (now (list .entry))) (now (netlist .entry)) (now (list .entry)) (now (buffer .entry)) (now (buffer .exit)) r (now (answer .exit)) ⌝ }
+{
+    let judged = batch::full(netlist, list, buffer);
+    put_judged(answer, judged)
+}
+
+#[no_mangle]
+pub extern "C" fn lane_forward_all(
+    netlist: &[u8],
+    list: &[u8],
+    buffer: &mut [u8],
+    answer: &mut [u64; 5],
+) -> u32
+    ensures { λ r. ⌜ AllJudged (forwardOf (now (netlist .entry)) (now (list .entry))) (now (netlist .entry)) (now (list .entry)) (now (buffer .entry)) (now (buffer .exit)) r (now (answer .exit)) ⌝ }
+{
+    let judged = batch::forward(netlist, list, buffer);
+    put_judged(answer, judged)
+}
+
+#[no_mangle]
+pub extern "C" fn lane_core_all(
+    netlist: &[u8],
+    list: &[u8],
+    buffer: &mut [u8],
+    answer: &mut [u64; 5],
+) -> u32
+    ensures { λ r. ⌜ AllJudged (coreOf (now (netlist .entry)) (now (list .entry))) (now (netlist .entry)) (now (list .entry)) (now (buffer .entry)) (now (buffer .exit)) r (now (answer .exit)) ⌝ }
+{
+    let judged = batch::core(netlist, list, buffer);
+    put_judged(answer, judged)
 }

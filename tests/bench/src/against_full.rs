@@ -2,10 +2,14 @@
 //! measures: gates visited in percent, and run time as a part of full
 //! simulation's.
 
-use crate::plain;
-use crate::race::{calls, race, Sample};
+use crate::plain::{self, Refused, Sums};
+use crate::race::{self, race, Sample};
 use crate::versions;
 use reference::netlist;
+use std::fmt::Display;
+
+/// A call for every change.
+type Every = fn(&[u8], &[u8], &mut [u8]) -> Result<Sums, Refused>;
 
 /// Sums over all changes and outputs of some cards.
 #[derive(Default)]
@@ -38,28 +42,16 @@ fn cones(netlist: &[u8]) -> Vec<usize> {
 
 impl Visits {
     fn add_sample(&mut self, s: &Sample) {
-        let cones = cones(&s.netlist);
-        let mut verdicts = [0; 64];
-        for change in 0..s.changes {
-            let (_, visited) = plain::forward_once(
-                &s.netlist,
-                &s.list,
-                &s.card,
-                &s.places,
-                change,
-                &mut verdicts,
-            );
-            self.forward += visited;
-            for (output, cone) in cones.iter().enumerate() {
-                let (class, gates, _) =
-                    plain::core_once(&s.netlist, &s.list, &s.card, &s.places, change, output);
-                self.pairs += 1;
-                self.hazards += usize::from(class.is_none());
-                self.gates += s.card.gates;
-                self.cone += cone;
-                self.core += gates;
-            }
-        }
+        let mut verdicts = vec![0; s.changes * s.card.outputs];
+        let mut sums = |call: Every| call(&s.netlist, &s.list, &mut verdicts).expect("room");
+        let (_, by_forward) = sums(plain::forward_all);
+        let (by_core, _) = sums(plain::core_all);
+        self.pairs += verdicts.len();
+        self.hazards += verdicts.iter().filter(|byte| **byte == 1).count();
+        self.gates += verdicts.len() * s.card.gates;
+        self.cone += s.changes * cones(&s.netlist).iter().sum::<usize>();
+        self.core += by_core;
+        self.forward += by_forward;
     }
 
     pub fn of(samples: &[Sample]) -> Visits {
@@ -97,40 +89,33 @@ pub fn print_visits(groups: &[(String, Vec<Sample>)]) {
     println!();
 }
 
-fn ratio(part: Option<f64>, whole: Option<f64>) -> String {
-    match (part, whole) {
-        (Some(part), Some(whole)) => format!("{:.2}", part / whole),
-        _ => "-".to_string(),
-    }
-}
-
-/// One line: with the check in every call, then on a card that was checked
-/// before. What is compared takes turns with each other.
-fn times(samples: &[Sample]) -> Vec<String> {
-    let calls = calls(samples);
+/// One line: with the check in every call, then checked once for all changes.
+/// What is compared takes turns with each other.
+fn times(samples: &[Sample]) -> Vec<f64> {
+    let calls = race::calls(samples);
     let mut line = Vec::new();
-    let [a, b, c] = versions::full();
-    let [d, e, f] = versions::core();
-    let [g, h, i] = versions::forward();
-    let times = race(&calls, [a, b, c, d, e, f, g, h, i]);
+    let rows = [versions::full(), versions::core(), versions::forward()];
+    let [full, core, forward] = race(&calls, race::one, rows);
     for version in 0..3 {
-        line.push(ratio(times[3 + version], times[version]));
-        line.push(ratio(times[6 + version], times[version]));
+        line.push(core[version] / full[version]);
+        line.push(forward[version] / full[version]);
     }
-    let [_, a, b] = versions::full_once();
-    let [_, c, d] = versions::core_once();
-    let [_, e, f] = versions::cores_once();
-    let [_, g, h] = versions::forward_once();
-    let times = race(&calls, [a, b, c, d, e, f, g, h]);
-    for version in 0..2 {
-        line.push(ratio(times[2 + version], times[version]));
-        line.push(ratio(times[4 + version], times[version]));
-        line.push(ratio(times[6 + version], times[version]));
+    let rows = [
+        versions::full_all(),
+        versions::core_all(),
+        versions::forward_all(),
+    ];
+    let [full, core, forward] = race(&calls, race::changes, rows);
+    let outputs = race::total(&calls, race::searches) / race::total(&calls, race::changes);
+    for version in 0..3 {
+        line.push(core[version] / outputs / full[version]);
+        line.push(core[version] / full[version]);
+        line.push(forward[version] / full[version]);
     }
     line
 }
 
-fn print_columns(name: &str, columns: &[&str]) {
+fn print_columns<T: Display>(name: &str, columns: &[T]) {
     print!("{name:>10}");
     for (number, column) in columns.iter().enumerate() {
         let width = if number < 6 { 8 } else { 7 };
@@ -145,25 +130,21 @@ pub fn print_times(groups: &[(String, Vec<Sample>)]) {
     );
     println!("CORE for each of them (all), the forward method for all of them");
     println!(
-        "{:>10}{:^48}{:^42}",
-        "", "check in every call", "card checked before"
+        "{:>10}{:^48}{:^63}",
+        "", "check in every call", "card checked once for all changes"
     );
-    print_columns(
-        "",
-        &[
-            "library", "", "plain", "", "tuned", "", "plain", "", "", "tuned", "", "",
-        ],
-    );
-    print_columns(
-        "gates",
-        &[
-            "CORE", "forward", "CORE", "forward", "CORE", "forward", "CORE", "all", "forw.",
-            "CORE", "all", "forw.",
-        ],
-    );
+    let versions = ["library", "plain", "tuned"];
+    let two = versions.map(|version| [version, ""]).concat();
+    let three = versions.map(|version| [version, "", ""]).concat();
+    print_columns("", &[two, three].concat());
+    let two = [["CORE", "forward"]; 3].concat();
+    let three = [["CORE", "all", "forw."]; 3].concat();
+    print_columns("gates", &[two, three].concat());
     for (name, samples) in groups {
-        let line = times(samples);
-        let line: Vec<&str> = line.iter().map(String::as_str).collect();
+        let line: Vec<String> = times(samples)
+            .iter()
+            .map(|part| format!("{part:.2}"))
+            .collect();
         print_columns(name, &line);
     }
     println!();

@@ -1,68 +1,77 @@
 //! Times mean something only if the answers are right: both Rust versions
 //! against the reference.
 
-use crate::{plain, tuned, whole};
-use reference::core::Verdict;
-use reference::netlist::Refused;
+use crate::plain::{self, Refused};
+use crate::{tuned, whole};
+use differential::{right, same_filling, Answer};
+use reference::netlist::Card;
 use reference::random::{self, Random};
 
-type Result<T> = std::result::Result<T, (u32, usize)>;
-
-/// A version's answers in one form.
+/// A version's answers in the library's form.
 trait Version {
-    fn netlist(&mut self, n: &[u8]) -> Result<[usize; 5]>;
-    fn list(&mut self, n: &[u8], l: &[u8]) -> Result<usize>;
-    fn full(&mut self, n: &[u8], l: &[u8], change: usize, buffer: &mut [u8]) -> Result<()>;
-    fn forward(
-        &mut self,
-        n: &[u8],
-        l: &[u8],
-        change: usize,
-        buffer: &mut [u8],
-    ) -> Result<(usize, usize)>;
-    fn core(
-        &mut self,
-        n: &[u8],
-        l: &[u8],
-        change: usize,
-        output: usize,
-    ) -> Result<plain::CoreAnswer>;
+    fn netlist(&mut self, n: &[u8]) -> Answer;
+    fn list(&mut self, n: &[u8], l: &[u8]) -> Answer;
+    fn full(&mut self, n: &[u8], l: &[u8], change: usize, buffer: &mut [u8]) -> Answer;
+    fn forward(&mut self, n: &[u8], l: &[u8], change: usize, buffer: &mut [u8]) -> Answer;
+    fn core(&mut self, n: &[u8], l: &[u8], change: usize, output: usize) -> Answer;
+    fn full_all(&mut self, n: &[u8], l: &[u8], buffer: &mut [u8]) -> Answer;
+    fn forward_all(&mut self, n: &[u8], l: &[u8], buffer: &mut [u8]) -> Answer;
+    fn core_all(&mut self, n: &[u8], l: &[u8], buffer: &mut [u8]) -> Answer;
     fn text(&mut self, n: &[u8], l: &[u8]) -> Vec<u8>;
+}
+
+fn answer<const N: usize>(found: Result<[usize; N], Refused>) -> Answer {
+    let (number, values) = match found {
+        Ok(values) => (0, values.to_vec()),
+        Err((number, place)) => (number, vec![place]),
+    };
+    let mut five = [0; 5];
+    for (value, found) in five.iter_mut().zip(values) {
+        *value = found as u64;
+    }
+    (number, five)
+}
+
+/// CORE's values: a clean output has a class.
+fn core_values((class, gates, pins): plain::CoreAnswer) -> [usize; 4] {
+    let code = usize::from(class.unwrap_or(0));
+    [usize::from(class.is_none()), code, gates, pins]
 }
 
 struct Plain;
 
 impl Version for Plain {
-    fn netlist(&mut self, n: &[u8]) -> Result<[usize; 5]> {
-        plain::check_netlist(n).map(|c| [c.inputs, c.gates, c.outputs, c.pins, c.entries_at])
+    fn netlist(&mut self, n: &[u8]) -> Answer {
+        let values = |c: plain::Card| [c.inputs, c.gates, c.outputs, c.pins, c.entries_at];
+        answer(plain::check_netlist(n).map(values))
     }
 
-    fn list(&mut self, n: &[u8], l: &[u8]) -> Result<usize> {
-        plain::check_list(n, l).map(|(_, changes)| changes)
+    fn list(&mut self, n: &[u8], l: &[u8]) -> Answer {
+        answer(plain::check_list(n, l).map(|(card, changes)| [changes, card.inputs.div_ceil(8)]))
     }
 
-    fn full(&mut self, n: &[u8], l: &[u8], change: usize, buffer: &mut [u8]) -> Result<()> {
-        plain::full(n, l, change, buffer)
+    fn full(&mut self, n: &[u8], l: &[u8], change: usize, buffer: &mut [u8]) -> Answer {
+        answer(plain::full(n, l, change, buffer).map(|()| []))
     }
 
-    fn forward(
-        &mut self,
-        n: &[u8],
-        l: &[u8],
-        change: usize,
-        buffer: &mut [u8],
-    ) -> Result<(usize, usize)> {
-        plain::forward(n, l, change, buffer)
+    fn forward(&mut self, n: &[u8], l: &[u8], change: usize, buffer: &mut [u8]) -> Answer {
+        answer(plain::forward(n, l, change, buffer).map(<[usize; 2]>::from))
     }
 
-    fn core(
-        &mut self,
-        n: &[u8],
-        l: &[u8],
-        change: usize,
-        output: usize,
-    ) -> Result<plain::CoreAnswer> {
-        plain::core(n, l, change, output)
+    fn core(&mut self, n: &[u8], l: &[u8], change: usize, output: usize) -> Answer {
+        answer(plain::core(n, l, change, output).map(core_values))
+    }
+
+    fn full_all(&mut self, n: &[u8], l: &[u8], buffer: &mut [u8]) -> Answer {
+        answer(plain::full_all(n, l, buffer).map(<[usize; 2]>::from))
+    }
+
+    fn forward_all(&mut self, n: &[u8], l: &[u8], buffer: &mut [u8]) -> Answer {
+        answer(plain::forward_all(n, l, buffer).map(<[usize; 2]>::from))
+    }
+
+    fn core_all(&mut self, n: &[u8], l: &[u8], buffer: &mut [u8]) -> Answer {
+        answer(plain::core_all(n, l, buffer).map(<[usize; 2]>::from))
     }
 
     fn text(&mut self, n: &[u8], l: &[u8]) -> Vec<u8> {
@@ -73,39 +82,41 @@ impl Version for Plain {
 struct Tuned(tuned::Index);
 
 impl Version for Tuned {
-    fn netlist(&mut self, n: &[u8]) -> Result<[usize; 5]> {
-        tuned::check_netlist(n, &mut self.0)?;
+    fn netlist(&mut self, n: &[u8]) -> Answer {
+        let found = tuned::check_netlist(n, &mut self.0);
         let i = &self.0;
-        Ok([i.inputs, i.gates, i.outputs, i.pins, i.entries_at])
+        answer(found.map(|()| [i.inputs, i.gates, i.outputs, i.pins, i.entries_at]))
     }
 
-    fn list(&mut self, n: &[u8], l: &[u8]) -> Result<usize> {
-        tuned::check_list(n, l, &mut self.0).map(|(changes, _)| changes)
+    fn list(&mut self, n: &[u8], l: &[u8]) -> Answer {
+        answer(tuned::check_list(n, l, &mut self.0).map(<[usize; 2]>::from))
     }
 
-    fn full(&mut self, n: &[u8], l: &[u8], change: usize, buffer: &mut [u8]) -> Result<()> {
-        tuned::full(n, l, change, buffer, &mut self.0)
+    fn full(&mut self, n: &[u8], l: &[u8], change: usize, buffer: &mut [u8]) -> Answer {
+        answer(tuned::full(n, l, change, buffer, &mut self.0).map(|()| []))
     }
 
-    fn forward(
-        &mut self,
-        n: &[u8],
-        l: &[u8],
-        change: usize,
-        buffer: &mut [u8],
-    ) -> Result<(usize, usize)> {
-        tuned::forward(n, l, change, buffer, &mut self.0)
+    fn forward(&mut self, n: &[u8], l: &[u8], change: usize, buffer: &mut [u8]) -> Answer {
+        answer(tuned::forward(n, l, change, buffer, &mut self.0).map(<[usize; 2]>::from))
     }
 
-    fn core(
-        &mut self,
-        n: &[u8],
-        l: &[u8],
-        change: usize,
-        output: usize,
-    ) -> Result<plain::CoreAnswer> {
-        let (code, gates, pins) = tuned::core(n, l, change, output, &mut self.0)?;
-        Ok(((code != tuned::HAZARD).then_some(code), gates, pins))
+    fn core(&mut self, n: &[u8], l: &[u8], change: usize, output: usize) -> Answer {
+        let found = tuned::core(n, l, change, output, &mut self.0);
+        answer(found.map(|(code, gates, pins)| {
+            core_values(((code != tuned::HAZARD).then_some(code), gates, pins))
+        }))
+    }
+
+    fn full_all(&mut self, n: &[u8], l: &[u8], buffer: &mut [u8]) -> Answer {
+        answer(tuned::full_all(n, l, buffer, &mut self.0).map(<[usize; 2]>::from))
+    }
+
+    fn forward_all(&mut self, n: &[u8], l: &[u8], buffer: &mut [u8]) -> Answer {
+        answer(tuned::forward_all(n, l, buffer, &mut self.0).map(<[usize; 2]>::from))
+    }
+
+    fn core_all(&mut self, n: &[u8], l: &[u8], buffer: &mut [u8]) -> Answer {
+        answer(tuned::core_all(n, l, buffer, &mut self.0).map(<[usize; 2]>::from))
     }
 
     fn text(&mut self, n: &[u8], l: &[u8]) -> Vec<u8> {
@@ -113,52 +124,60 @@ impl Version for Tuned {
     }
 }
 
-fn refusal(refused: Refused) -> (u32, usize) {
-    (refused.number, refused.place as usize)
-}
-
-fn same_checks(version: &mut impl Version, netlist: &[u8], list: &[u8]) {
-    let right = reference::netlist::check(netlist).map_err(refusal);
-    let right = right.map(|a| [a.inputs, a.gates, a.outputs, a.pins, a.entries_at]);
-    assert_eq!(
-        version.netlist(netlist),
-        right.map(|counts| counts.map(|count| count as usize))
-    );
-    let right = reference::changes::check(netlist, list).map_err(refusal);
-    assert_eq!(
-        version.list(netlist, list),
-        right.map(|a| a.changes as usize)
-    );
-}
-
-fn same_calls(version: &mut impl Version, netlist: &[u8], list: &[u8], change: usize) {
-    let (mut found, mut wanted) = ([0xEE; 2400], [0xEE; 2400]);
-    let right = reference::full::simulate(netlist, list, change, &mut wanted);
-    assert_eq!(
-        version.full(netlist, list, change, &mut found),
-        right.map_err(refusal)
-    );
-    assert_eq!(found, wanted);
-    let (mut found, mut wanted) = ([0xEE; 70], [0xEE; 70]);
-    let right = reference::forward::forward(netlist, list, change, &mut wanted);
-    let right = right.map(|counts| (counts.touched as usize, counts.visited as usize));
-    assert_eq!(
-        version.forward(netlist, list, change, &mut found),
-        right.map_err(refusal)
-    );
-    assert_eq!(found, wanted);
+fn one_change(version: &mut impl Version, n: &[u8], l: &[u8], change: usize) {
+    same_filling(
+        "full",
+        2400,
+        |buffer| version.full(n, l, change, buffer),
+        |buffer| right::full(n, l, change, buffer),
+    )
+    .unwrap();
+    same_filling(
+        "forward",
+        70,
+        |buffer| version.forward(n, l, change, buffer),
+        |buffer| right::forward(n, l, change, buffer),
+    )
+    .unwrap();
     for output in [0, 1, 5, 63, 64] {
-        let right = reference::core::core(netlist, list, change, output).map_err(refusal);
-        let right = right.map(|answer| {
-            let class = match answer.verdict {
-                Verdict::Clean(class) => Some(class.code()),
-                Verdict::Hazardous => None,
-            };
-            (class, answer.gates as usize, answer.pins as usize)
-        });
-        assert_eq!(version.core(netlist, list, change, output), right);
+        let found = version.core(n, l, change, output);
+        assert_eq!(found, right::core(n, l, change, output));
     }
 }
+
+/// A list's sums alone, which is what a version gives.
+fn sums((number, values): Answer) -> Answer {
+    match number {
+        0 => (0, [values[2], values[3], 0, 0, 0]),
+        _ => (number, values),
+    }
+}
+
+/// A call for every change of a list.
+type Every<V> = fn(&mut V, &[u8], &[u8], &mut [u8]) -> Answer;
+type Right = fn(&[u8], &[u8], &mut [u8]) -> Answer;
+
+/// All changes, with buffers that have up to three bytes to spare or lack one.
+fn every_change<V: Version>(version: &mut V, card: &Card, n: &[u8], l: &[u8], spare: usize) {
+    let (signals, outputs) = (card.signals(), card.outputs.len());
+    let calls: [(&str, usize, Every<V>, Right); 3] = [
+        ("full_all", signals, V::full_all, right::full_all),
+        ("forward_all", outputs, V::forward_all, right::forward_all),
+        ("core_all", outputs, V::core_all, right::core_all),
+    ];
+    for (name, width, found, right) in calls {
+        same_filling(
+            name,
+            COUNT * width + spare - 1,
+            |buffer| found(version, n, l, buffer),
+            |buffer| sums(right(n, l, buffer)),
+        )
+        .unwrap();
+    }
+}
+
+/// Changes of each list.
+const COUNT: usize = 2;
 
 fn agrees(mut version: impl Version) {
     let mut random = Random::new(71);
@@ -167,16 +186,18 @@ fn agrees(mut version: impl Version) {
             0 => random::any_card(&mut random),
             _ => random::small_card(&mut random),
         };
-        let (mut netlist, mut list) = random::files(&mut random, &card, 2);
+        let (mut netlist, mut list) = random::files(&mut random, &card, COUNT);
         match random.below(6) {
             0 => random::damage_netlist(&mut random, &card, &mut netlist),
             1 => random::damage_list(&mut random, card.inputs, &mut list),
             _ => {}
         }
-        same_checks(&mut version, &netlist, &list);
-        for change in 0..3 {
-            same_calls(&mut version, &netlist, &list, change);
+        assert_eq!(version.netlist(&netlist), right::netlist(&netlist));
+        assert_eq!(version.list(&netlist, &list), right::list(&netlist, &list));
+        for change in 0..=COUNT {
+            one_change(&mut version, &netlist, &list, change);
         }
+        every_change(&mut version, &card, &netlist, &list, random.below(5));
         assert_eq!(
             version.text(&netlist, &list),
             reference::program::printed(&netlist, &list)

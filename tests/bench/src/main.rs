@@ -1,16 +1,14 @@
 //! Times the library's calls against plain and against tuned safe Rust, on
 //! cards of 16 to 2,048 gates, so that growth shows.
 //!
-//! `cargo run --release --offline --features netlist,full,core,forward`; words
-//! after `--` are other numbers of gates. A row whose feature is off shows the
-//! Rust times alone, as does the program's row where target/bin/lane is
-//! missing. The ratio to watch is that to plain Rust: above 1 the library is
-//! slower.
+//! `cargo run --release --offline`; words after `--` are other numbers of
+//! gates. The program's row shows the Rust times alone where target/bin/lane
+//! is missing. The ratio to watch is that to plain Rust: above 1 the library
+//! is slower.
 
 mod against_full;
 #[cfg(test)]
 mod agreement;
-mod library;
 mod plain;
 mod race;
 mod tables;
@@ -18,79 +16,55 @@ mod tuned;
 mod versions;
 mod whole;
 
-use race::{race, Sample, CARDS, CHANGES, TURNS};
-use std::collections::HashMap;
+use race::{race, Sample, Units, Versions, CARDS, CHANGES, TURNS};
 use std::path::Path;
 use std::process::ExitCode;
-use versions::Versions;
 
 /// Gates of the cards, unless others are asked for.
 const SIZES: [usize; 8] = [16, 32, 64, 128, 256, 512, 1024, 2048];
 
-/// A row's name and what it calls.
-type Row = (&'static str, fn() -> Versions);
+/// A row's name, the unit whose time it tells, and what it calls.
+type Row = (&'static str, Units, fn() -> Versions);
 
 const ROWS: [Row; 8] = [
-    ("check netlist", versions::check_netlist),
-    ("check netlist + list", versions::check_list),
-    ("full", versions::full),
-    ("CORE", versions::core),
-    ("forward", versions::forward),
-    ("full, checked once", versions::full_once),
-    ("CORE, checked once", versions::core_once),
-    ("forward, checked once", versions::forward_once),
+    ("check netlist", race::one, versions::check_netlist),
+    ("check netlist + list", race::one, versions::check_list),
+    ("full", race::one, versions::full),
+    ("CORE", race::one, versions::core),
+    ("forward", race::one, versions::forward),
+    ("full, checked once", race::changes, versions::full_all),
+    ("CORE, checked once", race::searches, versions::core_all),
+    (
+        "forward, checked once",
+        race::changes,
+        versions::forward_all,
+    ),
 ];
 
-/// What a row's name ends in where the card was checked before.
-const ONCE: &str = ", checked once";
-
-/// The library exports no call without its check: a call's time less the check's.
-fn less_the_check(
-    library: &HashMap<(&str, usize), Option<f64>>,
-    call: &str,
-    gates: usize,
-) -> Option<f64> {
-    let time = |name| *library.get(&(name, gates))?;
-    Some(time(call)? - time("check netlist + list")?)
-}
-
-fn print_row(gates: usize, name: &str, times: [Option<f64>; 3]) {
-    let number = |value: Option<f64>, digits: usize| match value {
-        Some(value) => format!("{value:.digits$}"),
-        None => "-".to_string(),
-    };
-    let [library, plain, tuned] = times;
-    let ratio = |rust: Option<f64>| Some(library? / rust?);
+fn print_row(gates: usize, name: &str, [library, plain, tuned]: [f64; 3]) {
     println!(
-        "{gates:>5}  {name:<22}{:>11}{:>10}{:>7}{:>10}{:>7}{:>9}",
-        number(library, 0),
-        number(plain, 0),
-        number(ratio(plain), 2),
-        number(tuned, 0),
-        number(ratio(tuned), 2),
-        number(library.map(|time| time / gates as f64), 2),
+        "{gates:>5}  {name:<22}{library:>11.0}{plain:>10.0}{:>7.2}{tuned:>10.0}{:>7.2}{:>9.2}",
+        library / plain,
+        library / tuned,
+        library / gates as f64,
     );
 }
 
 fn print_calls(groups: &[(String, Vec<Sample>)]) {
-    println!("{CARDS} cards in rotation, {CHANGES} changes each, best of {TURNS} turns");
+    let (least, most) = (TURNS.start(), TURNS.end());
+    println!("{CARDS} cards in rotation, {CHANGES} changes each, best of {least} to {most} turns");
+    println!("Nanoseconds for a call. \"Checked once\" is one call for all changes of a list:");
+    println!("nanoseconds for a change, CORE's for a change and an output");
     println!(
         "{:>5}  {:<22}{:>11}{:>10}{:>7}{:>10}{:>7}{:>9}",
         "gates", "call", "library ns", "plain ns", "ratio", "tuned ns", "ratio", "ns/gate"
     );
-    let mut library = HashMap::new();
-    for (name, versions) in ROWS {
+    for (name, units, versions) in ROWS {
         for (_, samples) in groups {
-            let gates = samples[0].card.gates;
-            let mut times = race(&race::calls(samples), versions());
-            if let Some(call) = name.strip_suffix(ONCE) {
-                times[0] = less_the_check(&library, call, gates);
-            }
-            library.insert((name, gates), times[0]);
-            print_row(gates, name, times);
+            let [times] = race(&race::calls(samples), units, [versions()]);
+            print_row(samples[0].card.gates, name, times);
         }
     }
-    println!("The library's time \"checked once\" is that of the call less that of the check.");
     println!();
 }
 

@@ -150,6 +150,28 @@ fn open(netlist: &[u8], list: &[u8], change: usize) -> Result<Card, Refused> {
     }
 }
 
+/// Two counts, summed over all changes.
+pub type Sums = (usize, usize);
+
+/// Fills the row of every change, or 20.
+pub fn fill_rows(
+    buffer: &mut [u8],
+    changes: usize,
+    width: usize,
+    mut fill: impl FnMut(usize, &mut [u8]) -> Sums,
+) -> Result<Sums, Refused> {
+    if buffer.len() < changes * width {
+        return Err((20, 0));
+    }
+    let mut sums = (0, 0);
+    let rows = buffer.chunks_exact_mut(width).take(changes);
+    for (change, row) in rows.enumerate() {
+        let counts = fill(change, row);
+        sums = (sums.0 + counts.0, sums.1 + counts.1);
+    }
+    Ok(sums)
+}
+
 fn input_class(list: &[u8], width: usize, change: usize, input: usize) -> u8 {
     let at = 11 + 2 * change * width + input / 8;
     let first = list[at] >> (input % 8) & 1;
@@ -217,6 +239,16 @@ pub fn full(netlist: &[u8], list: &[u8], change: usize, buffer: &mut [u8]) -> Re
     }
     full_once(netlist, list, &card, change, buffer);
     Ok(())
+}
+
+/// Full simulation of every change, which counts nothing.
+pub fn full_all(netlist: &[u8], list: &[u8], buffer: &mut [u8]) -> Result<Sums, Refused> {
+    let (card, changes) = check_list(netlist, list)?;
+    let width = card.inputs + card.gates;
+    fill_rows(buffer, changes, width, |change, row| {
+        full_once(netlist, list, &card, change, row);
+        (0, 0)
+    })
 }
 
 // ---------------------------------------------------------------------------
@@ -408,6 +440,36 @@ pub fn core(
     }
 }
 
+/// Writes each output's verdict, searched from a copy of the cells; the sums
+/// of gates and pins.
+fn search_outputs(
+    netlist: &[u8],
+    card: &Card,
+    places: &[usize],
+    start: &[Cell],
+    row: &mut [u8],
+) -> (usize, usize) {
+    let mut sums = (0, 0);
+    for (output, byte) in row.iter_mut().enumerate() {
+        let mut cells = start.to_vec();
+        let signal = output_signal(netlist, card, output);
+        let (class, gates, pins) = search(netlist, card, places, &mut cells, signal);
+        *byte = u8::from(class.is_none());
+        sums = (sums.0 + gates, sums.1 + pins);
+    }
+    sums
+}
+
+/// CORE for every change and output: gates and pins.
+pub fn core_all(netlist: &[u8], list: &[u8], buffer: &mut [u8]) -> Result<Sums, Refused> {
+    let (card, changes) = check_list(netlist, list)?;
+    let places = places(netlist, &card);
+    fill_rows(buffer, changes, card.outputs, |change, row| {
+        let start = cells(list, &card, change);
+        search_outputs(netlist, &card, &places, &start, row)
+    })
+}
+
 // ---------------------------------------------------------------------------
 // The forward method.
 
@@ -435,8 +497,8 @@ fn constant(netlist: &[u8], at: usize, constants: &[Option<u8>]) -> (Option<u8>,
     (class, touched)
 }
 
-/// The forward method on a card that was checked before.
-pub fn forward_once(
+/// The forward method on a card that was checked before: touched, visited.
+fn forward_once(
     netlist: &[u8],
     list: &[u8],
     card: &Card,
@@ -462,14 +524,8 @@ pub fn forward_once(
             start[signal] = Cell::Known(class);
         }
     }
-    let mut visited = 0;
-    for (output, byte) in buffer[..card.outputs].iter_mut().enumerate() {
-        let mut cells = start.clone();
-        let signal = output_signal(netlist, card, output);
-        let (class, gates, _) = search(netlist, card, places, &mut cells, signal);
-        *byte = u8::from(class.is_none());
-        visited += gates;
-    }
+    let row = &mut buffer[..card.outputs];
+    let (visited, _) = search_outputs(netlist, card, places, &start, row);
     (touched, visited)
 }
 
@@ -485,4 +541,13 @@ pub fn forward(
     }
     let places = places(netlist, &card);
     Ok(forward_once(netlist, list, &card, &places, change, buffer))
+}
+
+/// The forward method for every change: touched and visited.
+pub fn forward_all(netlist: &[u8], list: &[u8], buffer: &mut [u8]) -> Result<Sums, Refused> {
+    let (card, changes) = check_list(netlist, list)?;
+    let places = places(netlist, &card);
+    fill_rows(buffer, changes, card.outputs, |change, row| {
+        forward_once(netlist, list, &card, &places, change, row)
+    })
 }

@@ -1,6 +1,7 @@
 //! The same calls in safe Rust, tuned: tables, no allocation, one pass for the
 //! check that also notes where records stand.
 
+use crate::plain::{fill_rows, Sums};
 use crate::tables::{
     CONSTANT, COUNTS, FLAVOUR, GATE, IMAGE, JOIN, LANES, NO_WAITING, POSSIBLE, WANTED,
 };
@@ -250,9 +251,9 @@ fn pin_set_slowly(pins: &[u8], sets: &[u8]) -> u8 {
     })
 }
 
-/// Full simulation of an accepted card's change into the first I + G bytes:
-/// first with each class as the set of it alone, then back to codes.
-fn simulate(netlist: &[u8], index: &Index, list: &[u8], change: usize, buffer: &mut [u8]) {
+/// Full simulation of a card that was checked before, into the first I + G
+/// bytes: first with each class as the set of it alone, then back to codes.
+pub fn full_once(netlist: &[u8], list: &[u8], change: usize, buffer: &mut [u8], index: &Index) {
     let width = index.inputs.div_ceil(8);
     let sets = &mut buffer[..index.inputs + index.gates];
     fill_inputs(list, width, change, &mut sets[..index.inputs]);
@@ -288,13 +289,23 @@ pub fn full(
     if buffer.len() < index.inputs + index.gates {
         return Err((20, 0));
     }
-    simulate(netlist, index, list, change, buffer);
+    full_once(netlist, list, change, buffer, index);
     Ok(())
 }
 
-/// Full simulation of a card that was checked before.
-pub fn full_once(netlist: &[u8], list: &[u8], change: usize, buffer: &mut [u8], index: &Index) {
-    simulate(netlist, index, list, change, buffer);
+/// Full simulation of every change, which counts nothing.
+pub fn full_all(
+    netlist: &[u8],
+    list: &[u8],
+    buffer: &mut [u8],
+    index: &mut Index,
+) -> Result<Sums, Refused> {
+    let (changes, _) = check_list(netlist, list, index)?;
+    let width = index.inputs + index.gates;
+    fill_rows(buffer, changes, width, |change, row| {
+        full_once(netlist, list, change, row, index);
+        (0, 0)
+    })
 }
 
 // ---------------------------------------------------------------------------
@@ -401,6 +412,15 @@ pub fn output_signal(netlist: &[u8], index: &Index, output: usize) -> usize {
     word(netlist, index.entries_at + 2 * output)
 }
 
+/// Makes the inputs known.
+fn know_inputs(list: &[u8], change: usize, index: &Index, cells: &mut [u8; MAX_SIGNALS]) {
+    let inputs = &mut cells[..index.inputs];
+    fill_inputs(list, index.inputs.div_ceil(8), change, inputs);
+    for cell in inputs {
+        *cell |= KNOWN;
+    }
+}
+
 /// CORE on a card that was checked before.
 pub fn core_once(
     netlist: &[u8],
@@ -410,11 +430,7 @@ pub fn core_once(
     index: &Index,
 ) -> CoreAnswer {
     let mut cells = [0; MAX_SIGNALS];
-    let width = index.inputs.div_ceil(8);
-    fill_inputs(list, width, change, &mut cells[..index.inputs]);
-    for cell in &mut cells[..index.inputs] {
-        *cell |= KNOWN;
-    }
+    know_inputs(list, change, index, &mut cells);
     let signal = output_signal(netlist, index, output);
     search(netlist, index, &mut cells, signal)
 }
@@ -438,6 +454,44 @@ pub fn core(
         return Err((21, 0));
     }
     Ok(answer)
+}
+
+/// Writes each output's verdict, searched from a copy of the cells; the sums
+/// of gates and pins.
+fn search_outputs(
+    netlist: &[u8],
+    index: &Index,
+    start: &[u8; MAX_SIGNALS],
+    row: &mut [u8],
+) -> (usize, usize) {
+    let of_gates = index.inputs..index.inputs + index.gates;
+    let mut cells = *start;
+    let mut sums = (0, 0);
+    for (output, byte) in row.iter_mut().enumerate() {
+        let signal = output_signal(netlist, index, output);
+        let (verdict, gates, pins) = search(netlist, index, &mut cells, signal);
+        if gates > 0 {
+            cells[of_gates.clone()].copy_from_slice(&start[of_gates.clone()]);
+        }
+        *byte = u8::from(verdict == HAZARD);
+        sums = (sums.0 + gates, sums.1 + pins);
+    }
+    sums
+}
+
+/// CORE for every change and output: gates and pins.
+pub fn core_all(
+    netlist: &[u8],
+    list: &[u8],
+    buffer: &mut [u8],
+    index: &mut Index,
+) -> Result<Sums, Refused> {
+    let (changes, _) = check_list(netlist, list, index)?;
+    let mut start = [0; MAX_SIGNALS];
+    fill_rows(buffer, changes, index.outputs, |change, row| {
+        know_inputs(list, change, index, &mut start);
+        search_outputs(netlist, index, &start, row)
+    })
 }
 
 // ---------------------------------------------------------------------------
@@ -478,8 +532,8 @@ fn spread(
     touched
 }
 
-/// The forward method on a card that was checked before.
-pub fn forward_once(
+/// The forward method on a card that was checked before: touched, visited.
+fn forward_once(
     netlist: &[u8],
     list: &[u8],
     change: usize,
@@ -488,18 +542,8 @@ pub fn forward_once(
 ) -> (usize, usize) {
     let mut start = [0; MAX_SIGNALS];
     let touched = spread(netlist, list, change, index, &mut start);
-    let signals = index.inputs + index.gates;
-    let mut cells = start;
-    let mut visited = 0;
-    for (output, byte) in buffer[..index.outputs].iter_mut().enumerate() {
-        let signal = output_signal(netlist, index, output);
-        let (verdict, gates, _) = search(netlist, index, &mut cells, signal);
-        if gates > 0 {
-            cells[index.inputs..signals].copy_from_slice(&start[index.inputs..signals]);
-        }
-        *byte = u8::from(verdict == HAZARD);
-        visited += gates;
-    }
+    let row = &mut buffer[..index.outputs];
+    let (visited, _) = search_outputs(netlist, index, &start, row);
     (touched, visited)
 }
 
@@ -518,4 +562,17 @@ pub fn forward(
         return Err((20, 0));
     }
     Ok(forward_once(netlist, list, change, buffer, index))
+}
+
+/// The forward method for every change: touched and visited.
+pub fn forward_all(
+    netlist: &[u8],
+    list: &[u8],
+    buffer: &mut [u8],
+    index: &mut Index,
+) -> Result<Sums, Refused> {
+    let (changes, _) = check_list(netlist, list, index)?;
+    fill_rows(buffer, changes, index.outputs, |change, row| {
+        forward_once(netlist, list, change, row, index)
+    })
 }

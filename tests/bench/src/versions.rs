@@ -1,228 +1,142 @@
-//! Each call in its three versions: the library's, where its feature is on,
-//! plain Rust and tuned Rust.
+//! Each call in its three versions.
 
-#[cfg(any(
-    feature = "netlist",
-    feature = "full",
-    feature = "core",
-    feature = "forward"
-))]
-use crate::library;
-use crate::race::{Call, Work};
+use crate::race::{Call, Versions, Work};
 use crate::{plain, tuned};
+use lanecard::Values;
 use std::hint::black_box;
+use tuned::Index;
 
-/// The library's call, or none where its feature is off.
-macro_rules! if_feature {
-    ($feature:literal, $work:expr) => {{
-        #[cfg(feature = $feature)]
-        let work: Option<Work<'static>> = Some(Box::new($work));
-        #[cfg(not(feature = $feature))]
-        let work: Option<Work<'static>> = None;
-        work
-    }};
+/// Bytes for any card: a class for each signal, a verdict for each output.
+const CLASSES: usize = 256 + 2048;
+const VERDICTS: usize = 64;
+
+/// Changes of the longest list.
+const CHANGES: usize = 1000;
+
+/// A version with a buffer of its own. What it gives and writes counts as
+/// used, so that no part of it is left out.
+fn work<T>(length: usize, mut version: impl FnMut(&Call, &mut [u8]) -> T + 'static) -> Work {
+    let mut buffer = vec![0; length];
+    Box::new(move |call| {
+        black_box(version(call, &mut buffer));
+        black_box(&buffer);
+    })
 }
 
-/// Library, plain, tuned.
-pub type Versions = [Option<Work<'static>>; 3];
-
-fn rust(
-    library: Option<Work<'static>>,
-    plain: impl FnMut(&Call) + 'static,
-    tuned: impl FnMut(&Call) + 'static,
-) -> Versions {
-    [library, Some(Box::new(plain)), Some(Box::new(tuned))]
+fn answered(call: impl FnOnce(&mut Values) -> u32) -> (u32, Values) {
+    let mut values = [0; 5];
+    (call(&mut values), values)
 }
 
 pub fn check_netlist() -> Versions {
     let mut index = tuned::new_index();
-    rust(
-        if_feature!("netlist", |call: &Call| {
-            let mut answer = [0; 5];
-            black_box(library::check_netlist(&call.sample.netlist, &mut answer));
-            black_box(&answer);
+    [
+        work(0, |c, _| {
+            answered(|values| lanecard::netlist(c.netlist, values))
         }),
-        |call| {
-            let _ = black_box(plain::check_netlist(&call.sample.netlist));
-        },
-        move |call| {
-            let _ = black_box(tuned::check_netlist(&call.sample.netlist, &mut index));
-            black_box(&index);
-        },
-    )
+        work(0, |c, _| plain::check_netlist(c.netlist)),
+        work(0, move |c, _| tuned::check_netlist(c.netlist, &mut index)),
+    ]
 }
 
 pub fn check_list() -> Versions {
     let mut index = tuned::new_index();
-    rust(
-        if_feature!("netlist", |call: &Call| {
-            let mut answer = [0; 5];
-            let (netlist, list) = (&call.sample.netlist, &call.sample.list);
-            black_box(library::check_list(netlist, list, &mut answer));
-            black_box(&answer);
+    [
+        work(0, |c, _| {
+            answered(|values| lanecard::list(c.netlist, c.list, values))
         }),
-        |call| {
-            let _ = black_box(plain::check_list(&call.sample.netlist, &call.sample.list));
-        },
-        move |call| {
-            let (netlist, list) = (&call.sample.netlist, &call.sample.list);
-            let _ = black_box(tuned::check_list(netlist, list, &mut index));
-            black_box(&index);
-        },
-    )
+        work(0, |c, _| plain::check_list(c.netlist, c.list)),
+        work(0, move |c, _| {
+            tuned::check_list(c.netlist, c.list, &mut index)
+        }),
+    ]
+}
+
+/// Calls that fill a buffer for one change.
+fn one_change<T>(
+    length: usize,
+    library: impl Fn(&[u8], &[u8], usize, &mut [u8], &mut Values) -> u32 + 'static,
+    plain: impl Fn(&[u8], &[u8], usize, &mut [u8]) -> T + 'static,
+    tuned: impl Fn(&[u8], &[u8], usize, &mut [u8], &mut Index) -> T + 'static,
+) -> Versions {
+    let mut index = tuned::new_index();
+    [
+        work(length, move |c, buffer| {
+            answered(|values| library(c.netlist, c.list, c.change, buffer, values))
+        }),
+        work(length, move |c, buffer| {
+            plain(c.netlist, c.list, c.change, buffer)
+        }),
+        work(length, move |c, buffer| {
+            tuned(c.netlist, c.list, c.change, buffer, &mut index)
+        }),
+    ]
 }
 
 pub fn full() -> Versions {
-    let mut index = tuned::new_index();
-    let (mut first, mut second) = ([0; 2304], [0; 2304]);
-    rust(
-        if_feature!("full", {
-            let mut buffer = [0; 2304];
-            move |call: &Call| {
-                let mut answer = [0; 5];
-                let (netlist, list) = (&call.sample.netlist, &call.sample.list);
-                let refusal = library::full(netlist, list, call.change, &mut buffer, &mut answer);
-                black_box(refusal);
-                black_box(&buffer);
-            }
-        }),
-        move |call| {
-            let (netlist, list) = (&call.sample.netlist, &call.sample.list);
-            let _ = black_box(plain::full(netlist, list, call.change, &mut first));
-            black_box(&first);
-        },
-        move |call| {
-            let (netlist, list) = (&call.sample.netlist, &call.sample.list);
-            let done = tuned::full(netlist, list, call.change, &mut second, &mut index);
-            let _ = black_box(done);
-            black_box(&second);
-        },
-    )
+    one_change(CLASSES, lanecard::full, plain::full, tuned::full)
+}
+
+pub fn forward() -> Versions {
+    one_change(VERDICTS, lanecard::forward, plain::forward, tuned::forward)
 }
 
 pub fn core() -> Versions {
     let mut index = tuned::new_index();
-    rust(
-        if_feature!("core", |call: &Call| {
-            let mut answer = [0; 5];
-            let (netlist, list) = (&call.sample.netlist, &call.sample.list);
-            let refusal = library::core(netlist, list, call.change, call.output, &mut answer);
-            black_box(refusal);
-            black_box(&answer);
+    [
+        work(0, |c, _| {
+            answered(|values| lanecard::core(c.netlist, c.list, c.change, c.output, values))
         }),
-        |call| {
-            let (netlist, list) = (&call.sample.netlist, &call.sample.list);
-            let _ = black_box(plain::core(netlist, list, call.change, call.output));
-        },
-        move |call| {
-            let (netlist, list) = (&call.sample.netlist, &call.sample.list);
-            let answer = tuned::core(netlist, list, call.change, call.output, &mut index);
-            let _ = black_box(answer);
-        },
-    )
+        work(0, |c, _| plain::core(c.netlist, c.list, c.change, c.output)),
+        work(0, move |c, _| {
+            tuned::core(c.netlist, c.list, c.change, c.output, &mut index)
+        }),
+    ]
 }
 
-pub fn forward() -> Versions {
+/// Calls that fill a buffer with a row of so many bytes for every change.
+fn every_change<T>(
+    width: usize,
+    library: impl Fn(&[u8], &[u8], &mut [u8], &mut Values) -> u32 + 'static,
+    plain: impl Fn(&[u8], &[u8], &mut [u8]) -> T + 'static,
+    tuned: impl Fn(&[u8], &[u8], &mut [u8], &mut Index) -> T + 'static,
+) -> Versions {
     let mut index = tuned::new_index();
-    let (mut first, mut second) = ([0; 64], [0; 64]);
-    rust(
-        if_feature!("forward", {
-            let mut buffer = [0; 64];
-            move |call: &Call| {
-                let mut answer = [0; 5];
-                let (netlist, list) = (&call.sample.netlist, &call.sample.list);
-                let refusal =
-                    library::forward(netlist, list, call.change, &mut buffer, &mut answer);
-                black_box(refusal);
-                black_box(&buffer);
-            }
+    let length = CHANGES * width;
+    [
+        work(length, move |c, buffer| {
+            answered(|values| library(c.netlist, c.list, buffer, values))
         }),
-        move |call| {
-            let (netlist, list) = (&call.sample.netlist, &call.sample.list);
-            let _ = black_box(plain::forward(netlist, list, call.change, &mut first));
-            black_box(&first);
-        },
-        move |call| {
-            let (netlist, list) = (&call.sample.netlist, &call.sample.list);
-            let counts = tuned::forward(netlist, list, call.change, &mut second, &mut index);
-            let _ = black_box(counts);
-            black_box(&second);
-        },
+        work(length, move |c, buffer| plain(c.netlist, c.list, buffer)),
+        work(length, move |c, buffer| {
+            tuned(c.netlist, c.list, buffer, &mut index)
+        }),
+    ]
+}
+
+pub fn full_all() -> Versions {
+    every_change(
+        CLASSES,
+        lanecard::full_all,
+        plain::full_all,
+        tuned::full_all,
     )
 }
 
-// Calls on a card that was checked before. The library has them inside its
-// program, and exports none.
-
-pub fn full_once() -> Versions {
-    let (mut first, mut second) = ([0; 2304], [0; 2304]);
-    rust(
-        None,
-        move |call| {
-            let s = call.sample;
-            plain::full_once(&s.netlist, &s.list, &s.card, call.change, &mut first);
-            black_box(&first);
-        },
-        move |call| {
-            let s = call.sample;
-            tuned::full_once(&s.netlist, &s.list, call.change, &mut second, &s.index);
-            black_box(&second);
-        },
+pub fn core_all() -> Versions {
+    every_change(
+        VERDICTS,
+        lanecard::core_all,
+        plain::core_all,
+        tuned::core_all,
     )
 }
 
-fn plain_core(call: &Call, output: usize) {
-    let s = call.sample;
-    let answer = plain::core_once(&s.netlist, &s.list, &s.card, &s.places, call.change, output);
-    black_box(answer);
-}
-
-fn tuned_core(call: &Call, output: usize) {
-    let s = call.sample;
-    let answer = tuned::core_once(&s.netlist, &s.list, call.change, output, &s.index);
-    black_box(answer);
-}
-
-pub fn core_once() -> Versions {
-    rust(
-        None,
-        |call| plain_core(call, call.output),
-        |call| tuned_core(call, call.output),
-    )
-}
-
-/// CORE for every output.
-pub fn cores_once() -> Versions {
-    rust(
-        None,
-        |call| (0..call.sample.card.outputs).for_each(|output| plain_core(call, output)),
-        |call| (0..call.sample.card.outputs).for_each(|output| tuned_core(call, output)),
-    )
-}
-
-pub fn forward_once() -> Versions {
-    let (mut first, mut second) = ([0; 64], [0; 64]);
-    rust(
-        None,
-        move |call| {
-            let s = call.sample;
-            let counts = plain::forward_once(
-                &s.netlist,
-                &s.list,
-                &s.card,
-                &s.places,
-                call.change,
-                &mut first,
-            );
-            black_box(counts);
-            black_box(&first);
-        },
-        move |call| {
-            let s = call.sample;
-            let counts =
-                tuned::forward_once(&s.netlist, &s.list, call.change, &mut second, &s.index);
-            black_box(counts);
-            black_box(&second);
-        },
+pub fn forward_all() -> Versions {
+    every_change(
+        VERDICTS,
+        lanecard::forward_all,
+        plain::forward_all,
+        tuned::forward_all,
     )
 }

@@ -4,10 +4,7 @@
 //! card. From 1,000 cards on it also fails if a call was never accepted or a
 //! refusal never met, for then it has compared too little.
 
-mod library;
-mod right;
-
-use library::Answer;
+use differential::{found, right, same, same_filling, Answer, Difference};
 use reference::classes::ALL;
 use reference::netlist::Card;
 use reference::random::{self, Random};
@@ -28,23 +25,36 @@ enum Call {
     Full,
     Forward,
     Core,
+    FullAll,
+    ForwardAll,
+    CoreAll,
 }
 
-const CALLS: [(Call, &str); 5] = [
+const CALLS: [(Call, &str); 8] = [
     (Call::Netlist, "netlist"),
     (Call::List, "list"),
     (Call::Full, "full"),
     (Call::Forward, "forward"),
     (Call::Core, "core"),
+    (Call::FullAll, "full_all"),
+    (Call::ForwardAll, "forward_all"),
+    (Call::CoreAll, "core_all"),
 ];
 
-/// The refusals that each call can meet; nothing meets 21.
-fn refusals(call: Call) -> Vec<usize> {
-    match call {
-        Call::Netlist => (1..=10).collect(),
-        Call::List => (1..=17).collect(),
-        Call::Full | Call::Forward => (1..=18).chain([20]).collect(),
-        Call::Core => (1..=19).collect(),
+impl Call {
+    fn name(self) -> &'static str {
+        CALLS[self as usize].1
+    }
+
+    /// The refusals that it can meet; nothing meets 21.
+    fn refusals(self) -> Vec<usize> {
+        match self {
+            Call::Netlist => (1..=10).collect(),
+            Call::List => (1..=17).collect(),
+            Call::Full | Call::Forward => (1..=18).chain([20]).collect(),
+            Call::Core => (1..=19).collect(),
+            Call::FullAll | Call::ForwardAll | Call::CoreAll => (1..=17).chain([20]).collect(),
+        }
     }
 }
 
@@ -61,7 +71,7 @@ impl Counts {
         for (call, name) in CALLS {
             let counts = &self.0[call as usize];
             let all: usize = counts.iter().sum();
-            print!("{name:>8}: {all} calls, {} accepted, refused", counts[0]);
+            print!("{name:>11}: {all} calls, {} accepted, refused", counts[0]);
             for (number, count) in counts.iter().enumerate().skip(1) {
                 if *count > 0 {
                     print!(" {number}:{count}");
@@ -78,7 +88,7 @@ impl Counts {
             if !met(&0) {
                 return Some(format!("{name} was never accepted"));
             }
-            if let Some(number) = refusals(call).into_iter().find(|number| !met(number)) {
+            if let Some(number) = call.refusals().into_iter().find(|number| !met(number)) {
                 return Some(format!("{name} never met refusal {number}"));
             }
         }
@@ -86,68 +96,19 @@ impl Counts {
     }
 }
 
-type Difference = String;
-
-fn same<T: PartialEq + std::fmt::Debug>(
-    call: &str,
-    found: &T,
-    wanted: &T,
-) -> Result<(), Difference> {
-    if found == wanted {
-        return Ok(());
-    }
-    Err(format!("{call}: found {found:?}, wanted {wanted:?}"))
-}
-
 /// All 136 cells of the two operations and of NOT.
 fn compare_classes() -> Result<(), Difference> {
     for a in ALL {
         for b in ALL {
             for operation in [0, 1] {
-                let found = library::join(operation, a.code(), b.code());
+                let found = lanecard::join(operation, a.code(), b.code());
                 let cell = format!("join {operation} {} {}", a.name(), b.name());
                 same(&cell, &found, &right::join(operation, a, b))?;
             }
         }
         let cell = format!("invert {}", a.name());
-        same(&cell, &library::invert(a.code()), &right::invert(a))?;
+        same(&cell, &lanecard::invert(a.code()), &right::invert(a))?;
     }
-    Ok(())
-}
-
-/// A call that fills a buffer.
-type Filling = fn(&[u8], &[u8], usize, &mut [u8]) -> Answer;
-
-fn compare_filling(
-    counts: &mut Counts,
-    files: &Files,
-    call: (Call, &str),
-    calls: (Filling, Filling),
-    change: usize,
-    length: usize,
-) -> Result<(), Difference> {
-    let filled: Box<[u8]> = (0..length).map(|at| 0xA0 | (at as u8 % 16)).collect();
-    let (mut found, mut wanted) = (filled.clone(), filled);
-    let answer = (calls.0)(&files.netlist, &files.list, change, &mut found);
-    let right = (calls.1)(&files.netlist, &files.list, change, &mut wanted);
-    let name = format!("{} change {change} buffer {length}", call.1);
-    same(&name, &answer, &right)?;
-    same(&name, &found, &wanted)?;
-    counts.note(call.0, &right);
-    Ok(())
-}
-
-fn compare_core(
-    counts: &mut Counts,
-    files: &Files,
-    change: usize,
-    output: usize,
-) -> Result<(), Difference> {
-    let answer = library::core(&files.netlist, &files.list, change, output);
-    let right = right::core(&files.netlist, &files.list, change, output);
-    let name = format!("core change {change} output {output}");
-    same(&name, &answer, &right)?;
-    counts.note(Call::Core, &right);
     Ok(())
 }
 
@@ -155,32 +116,125 @@ fn compare_core(
 fn around(random: &mut Random, length: usize) -> usize {
     match random.below(6) {
         0 => random.below(length + 1),
-        1 => length - 1,
+        1 => length.saturating_sub(1),
         2 => length + random.below(100),
         _ => length,
     }
 }
 
-/// All calls for one change, CORE for the outputs given.
-fn compare_change(
-    counts: &mut Counts,
-    files: &Files,
-    random: &mut Random,
-    card: &Card,
-    change: usize,
-    outputs: &[usize],
-) -> Result<(), Difference> {
-    let length = around(random, card.signals());
-    let calls: (Filling, Filling) = (library::full, right::full);
-    compare_filling(counts, files, (Call::Full, "full"), calls, change, length)?;
-    let length = around(random, card.outputs.len());
-    let calls: (Filling, Filling) = (library::forward, right::forward);
-    let call = (Call::Forward, "forward");
-    compare_filling(counts, files, call, calls, change, length)?;
-    for output in outputs {
-        compare_core(counts, files, change, *output)?;
+/// A call that fills a buffer: for one change, for every change.
+type One = fn(&[u8], &[u8], usize, &mut [u8]) -> Answer;
+type Every = fn(&[u8], &[u8], &mut [u8]) -> Answer;
+
+/// The comparisons of one card, whose list was made with so many changes.
+struct Round<'a> {
+    counts: &'a mut Counts,
+    random: &'a mut Random,
+    files: &'a Files,
+    card: &'a Card,
+    changes: usize,
+}
+
+impl Round<'_> {
+    fn answers(&mut self, call: Call, found: Answer, right: Answer) -> Result<(), Difference> {
+        self.counts.note(call, &right);
+        same(call.name(), &found, &right)
     }
-    Ok(())
+
+    /// CORE's call for each of the outputs.
+    fn core(&mut self, change: usize, outputs: &[usize]) -> Result<(), Difference> {
+        let (n, l) = (&self.files.netlist, &self.files.list);
+        for output in outputs {
+            let found = found::core(n, l, change, *output);
+            let right = right::core(n, l, change, *output);
+            let place = |difference| format!("change {change} output {output}: {difference}");
+            self.answers(Call::Core, found, right).map_err(place)?;
+        }
+        Ok(())
+    }
+
+    /// A call for one change that needs so long a buffer.
+    fn one(
+        &mut self,
+        call: Call,
+        needed: usize,
+        change: usize,
+        [found, right]: [One; 2],
+    ) -> Result<(), Difference> {
+        let (n, l) = (&self.files.netlist, &self.files.list);
+        let (answer, _) = same_filling(
+            &format!("{} change {change}", call.name()),
+            around(self.random, needed),
+            |buffer| found(n, l, change, buffer),
+            |buffer| right(n, l, change, buffer),
+        )?;
+        self.counts.note(call, &answer);
+        Ok(())
+    }
+
+    /// A call for every change that needs so many bytes for each.
+    fn every(
+        &mut self,
+        call: Call,
+        width: usize,
+        [found, right]: [Every; 2],
+    ) -> Result<(), Difference> {
+        let (n, l) = (&self.files.netlist, &self.files.list);
+        let (answer, _) = same_filling(
+            call.name(),
+            around(self.random, self.changes * width),
+            |buffer| found(n, l, buffer),
+            |buffer| right(n, l, buffer),
+        )?;
+        self.counts.note(call, &answer);
+        Ok(())
+    }
+
+    /// The two checks; are the files accepted?
+    fn checks(&mut self) -> Result<bool, Difference> {
+        let (n, l) = (&self.files.netlist, &self.files.list);
+        self.answers(Call::Netlist, found::netlist(n), right::netlist(n))?;
+        let right = right::list(n, l);
+        self.answers(Call::List, found::list(n, l), right)?;
+        Ok(right.0 == 0)
+    }
+
+    /// All calls for one change, CORE for the outputs given.
+    fn one_change(&mut self, change: usize, outputs: &[usize]) -> Result<(), Difference> {
+        let (signals, entries) = (self.card.signals(), self.card.outputs.len());
+        let full = [found::full, right::full as One];
+        self.one(Call::Full, signals, change, full)?;
+        let forward = [found::forward, right::forward as One];
+        self.one(Call::Forward, entries, change, forward)?;
+        self.core(change, outputs)
+    }
+
+    fn every_change(&mut self) -> Result<(), Difference> {
+        let (signals, entries) = (self.card.signals(), self.card.outputs.len());
+        let full = [found::full_all, right::full_all as Every];
+        self.every(Call::FullAll, signals, full)?;
+        let forward = [found::forward_all, right::forward_all as Every];
+        self.every(Call::ForwardAll, entries, forward)?;
+        let core = [found::core_all, right::core_all as Every];
+        self.every(Call::CoreAll, entries, core)
+    }
+
+    fn compare(&mut self) -> Result<(), Difference> {
+        let (changes, entries) = (self.changes, self.card.outputs.len());
+        let past_output = self.random.pick(&[entries, 64, 1 << 32, usize::MAX]);
+        if self.checks()? {
+            let outputs: Vec<usize> = (0..entries).chain([past_output]).collect();
+            for change in 0..changes {
+                self.one_change(change, &outputs)?;
+            }
+        }
+        // Refused files are refused whatever is asked, so one question is enough.
+        let past = [changes, changes + 1, 1 << 32, usize::MAX];
+        for change in [0, self.random.pick(&past)] {
+            self.one_change(change, &[0, past_output])?;
+        }
+        self.every_change()
+    }
 }
 
 /// A card's files: as they are, or one or both of them damaged.
@@ -199,35 +253,6 @@ fn files(random: &mut Random, card: &Card, count: usize) -> Files {
     }
 }
 
-fn compare_card(
-    counts: &mut Counts,
-    random: &mut Random,
-    card: &Card,
-    count: usize,
-    files: &Files,
-) -> Result<(), Difference> {
-    let (netlist, list) = (&files.netlist, &files.list);
-    let right = right::netlist(netlist);
-    same("netlist", &library::netlist(netlist), &right)?;
-    counts.note(Call::Netlist, &right);
-    let right = right::list(netlist, list);
-    same("list", &library::list(netlist, list), &right)?;
-    counts.note(Call::List, &right);
-    let past_output = random.pick(&[card.outputs.len(), 64, 1 << 32, usize::MAX]);
-    if right.0 == 0 {
-        let outputs: Vec<usize> = (0..card.outputs.len()).chain([past_output]).collect();
-        for change in 0..count {
-            compare_change(counts, files, random, card, change, &outputs)?;
-        }
-    }
-    // Refused files are refused whatever is asked, so one question is enough.
-    let past_change = random.pick(&[count, count + 1, 1 << 32, usize::MAX]);
-    for change in [0, past_change] {
-        compare_change(counts, files, random, card, change, &[0, past_output])?;
-    }
-    Ok(())
-}
-
 fn random_card(random: &mut Random, round: usize) -> Card {
     match round % 20 {
         0 => random::any_card(random),
@@ -236,13 +261,20 @@ fn random_card(random: &mut Random, round: usize) -> Card {
 }
 
 fn run(rounds: usize, seed: u64, counts: &mut Counts) -> Result<(), (Difference, Files)> {
-    let mut random = Random::new(seed);
-    for round in 0..rounds {
-        let card = random_card(&mut random, round);
-        let count = random.pick(&[0, 1, 2, 3]);
-        let files = files(&mut random, &card, count);
-        if let Err(difference) = compare_card(counts, &mut random, &card, count, &files) {
-            return Err((format!("card {round}: {difference}"), files));
+    let random = &mut Random::new(seed);
+    for number in 0..rounds {
+        let card = random_card(random, number);
+        let changes = random.pick(&[0, 1, 2, 3]);
+        let files = files(random, &card, changes);
+        let mut round = Round {
+            counts,
+            random,
+            files: &files,
+            card: &card,
+            changes,
+        };
+        if let Err(difference) = round.compare() {
+            return Err((format!("card {number}: {difference}"), files));
         }
     }
     Ok(())

@@ -1,9 +1,10 @@
 //! The reference's answers in the library's form.
 
-use crate::library::Answer;
+use crate::Answer;
+use lanecard::Values;
 use reference::classes::{rule, rule_not, Class, Operation};
 use reference::core::Verdict;
-use reference::netlist::Refused;
+use reference::netlist::{Card, Refused};
 use reference::{changes, forward, full, netlist};
 
 pub fn join(operation: u8, a: Class, b: Class) -> u8 {
@@ -18,7 +19,7 @@ pub fn invert(a: Class) -> u8 {
     rule_not(a).code()
 }
 
-fn answer(result: Result<[u64; 5], Refused>) -> Answer {
+fn answer(result: Result<Values, Refused>) -> Answer {
     match result {
         Ok(values) => (0, values),
         Err(refused) => (refused.number, [refused.place, 0, 0, 0, 0]),
@@ -41,10 +42,71 @@ pub fn forward(n: &[u8], l: &[u8], change: usize, buffer: &mut [u8]) -> Answer {
     answer(forward::forward(n, l, change, buffer).map(|c| [c.touched, c.visited, 0, 0, 0]))
 }
 
+pub fn core_values(answer: reference::core::Answer) -> Values {
+    let (verdict, code) = match answer.verdict {
+        Verdict::Clean(class) => (0, class.code()),
+        Verdict::Hazardous => (1, 0),
+    };
+    [verdict, u64::from(code), answer.gates, answer.pins, 0]
+}
+
 pub fn core(n: &[u8], l: &[u8], change: usize, output: usize) -> Answer {
-    let found = reference::core::core(n, l, change, output);
-    answer(found.map(|a| match a.verdict {
-        Verdict::Clean(class) => [0, u64::from(class.code()), a.gates, a.pins, 0],
-        Verdict::Hazardous => [1, 0, a.gates, a.pins, 0],
+    answer(reference::core::core(n, l, change, output).map(core_values))
+}
+
+// ---------------------------------------------------------------------------
+// Every change of a list, by single calls.
+
+/// The list's refusals, then 20; else row after row, their number and width,
+/// and the sums of their two counts.
+fn rows(
+    n: &[u8],
+    l: &[u8],
+    width: fn(&Card) -> usize,
+    buffer: &mut [u8],
+    fill: impl Fn(usize, &mut [u8]) -> Result<[u64; 2], Refused>,
+) -> Result<Values, Refused> {
+    let job = changes::decode(n, l)?;
+    let (count, width) = (job.changes.len(), width(&job.card));
+    if buffer.len() < count * width {
+        return netlist::refused(20, 0);
+    }
+    let mut values = [count as u64, width as u64, 0, 0, 0];
+    for (change, row) in buffer.chunks_exact_mut(width).take(count).enumerate() {
+        let counts = fill(change, row)?;
+        values[2] += counts[0];
+        values[3] += counts[1];
+    }
+    Ok(values)
+}
+
+fn outputs(card: &Card) -> usize {
+    card.outputs.len()
+}
+
+pub fn full_all(n: &[u8], l: &[u8], buffer: &mut [u8]) -> Answer {
+    answer(rows(n, l, Card::signals, buffer, |change, row| {
+        full::simulate(n, l, change, row)?;
+        Ok([0, 0])
+    }))
+}
+
+pub fn forward_all(n: &[u8], l: &[u8], buffer: &mut [u8]) -> Answer {
+    answer(rows(n, l, outputs, buffer, |change, row| {
+        let counts = forward::forward(n, l, change, row)?;
+        Ok([counts.touched, counts.visited])
+    }))
+}
+
+pub fn core_all(n: &[u8], l: &[u8], buffer: &mut [u8]) -> Answer {
+    answer(rows(n, l, outputs, buffer, |change, row| {
+        let mut sums = [0, 0];
+        for (output, byte) in row.iter_mut().enumerate() {
+            let found = reference::core::core(n, l, change, output)?;
+            *byte = u8::from(found.verdict == Verdict::Hazardous);
+            sums[0] += found.gates;
+            sums[1] += found.pins;
+        }
+        Ok(sums)
     }))
 }

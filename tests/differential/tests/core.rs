@@ -1,56 +1,12 @@
 //! `lane_core` against the reference: verdict, class, gates visited and pins
 //! taken, for all outputs and changes.
 
+use differential::{found, right};
 use reference::cases;
 use reference::core::{self, Answer, Statistics, Verdict};
 use reference::netlist::{Card, Gate, Kind, KINDS, MAX_GATES, MAX_INPUTS};
 use reference::random::{self, Random, Shape, SHAPES};
 use reference::{changes, full};
-
-extern "C" {
-    fn lane_core(
-        netlist: *const u8,
-        netlist_len: usize,
-        list: *const u8,
-        list_len: usize,
-        change: usize,
-        output: usize,
-        answer: *mut u64,
-    ) -> u32;
-}
-
-/// The library's answer: the refusal number (0 none) and the five values.
-fn library(netlist: &[u8], list: &[u8], change: usize, output: usize) -> (u32, [u64; 5]) {
-    let mut answer = [u64::MAX; 5];
-    // SAFETY: the slices and the five values live through the call.
-    let number = unsafe {
-        lane_core(
-            netlist.as_ptr(),
-            netlist.len(),
-            list.as_ptr(),
-            list.len(),
-            change,
-            output,
-            answer.as_mut_ptr(),
-        )
-    };
-    (number, answer)
-}
-
-fn values(answer: Answer) -> [u64; 5] {
-    let (verdict, code) = match answer.verdict {
-        Verdict::Clean(class) => (0, class.code()),
-        Verdict::Hazardous => (1, 0),
-    };
-    [verdict, u64::from(code), answer.gates, answer.pins, 0]
-}
-
-fn expected(netlist: &[u8], list: &[u8], change: usize, output: usize) -> (u32, [u64; 5]) {
-    match core::core(netlist, list, change, output) {
-        Ok(answer) => (0, values(answer)),
-        Err(refused) => (refused.number, [refused.place, 0, 0, 0, 0]),
-    }
-}
 
 /// What a run of comparisons has seen.
 #[derive(Default)]
@@ -88,10 +44,10 @@ fn compare_card(seen: &mut Seen, random: &mut Random, card: &Card, count: usize)
     for change in 0..count {
         let right = core::all_outputs(card, &inputs(change));
         for (output, (answer, statistics)) in right.iter().enumerate() {
-            let found = library(&netlist, &list, change, output);
+            let found = found::core(&netlist, &list, change, output);
             assert_eq!(
                 found,
-                (0, values(*answer)),
+                (0, right::core_values(*answer)),
                 "change {change} {:?} output {output} of {card:?}",
                 inputs(change)
             );
@@ -104,7 +60,7 @@ fn compare_card(seen: &mut Seen, random: &mut Random, card: &Card, count: usize)
 #[test]
 fn mux() {
     let (netlist, list) = (cases::mux_netlist(), cases::mux_list());
-    assert_eq!(library(&netlist, &list, 0, 0), (0, [1, 0, 4, 7, 0]));
+    assert_eq!(found::core(&netlist, &list, 0, 0), (0, [1, 0, 4, 7, 0]));
 }
 
 #[test]
@@ -227,8 +183,8 @@ fn deep_chains_on_a_small_stack() {
             for (side, end) in [(0, 2), (1, 2), (0, 3), (1, 3), (2, 2), (2, 3)] {
                 let class = |code| reference::classes::Class::of_code(code);
                 let list = changes::to_bytes(&netlist, &[vec![class(side), class(end)]]);
-                let right = expected(&netlist, &list, 0, 0);
-                assert_eq!(library(&netlist, &list, 0, 0), right);
+                let right = right::core(&netlist, &list, 0, 0);
+                assert_eq!(found::core(&netlist, &list, 0, 0), right);
                 compared += 1;
                 deepest = deepest.max(right.1[2]);
             }
@@ -264,8 +220,12 @@ fn all_changes_of_small_cards() {
         for (number, change) in all.iter().enumerate() {
             let right = core::all_outputs(&card, change);
             for (output, (answer, statistics)) in right.iter().enumerate() {
-                let found = library(&netlist, &list, number, output);
-                assert_eq!(found, (0, values(*answer)), "{change:?} {output} {card:?}");
+                let found = found::core(&netlist, &list, number, output);
+                assert_eq!(
+                    found,
+                    (0, right::core_values(*answer)),
+                    "{change:?} {output} {card:?}"
+                );
                 seen.note(answer, statistics);
             }
         }
@@ -285,14 +245,14 @@ fn numbers_past_the_end() {
         let far = [0, 1, 256, 65_536, 1 << 32, 1 << 63, usize::MAX];
         for change in far.into_iter().chain([2, 3]) {
             for output in far.into_iter().chain([outputs - 1, outputs]) {
-                let right = expected(&netlist, &list, change, output);
+                let right = right::core(&netlist, &list, change, output);
                 let number = match (change < 2, output < outputs) {
                     (false, _) => 18,
                     (true, false) => 19,
                     (true, true) => 0,
                 };
                 assert_eq!(right.0, number);
-                assert_eq!(library(&netlist, &list, change, output), right);
+                assert_eq!(found::core(&netlist, &list, change, output), right);
                 compared += 1;
             }
         }
@@ -306,15 +266,11 @@ fn damaged_files() {
     let mut met = [0; 22];
     for _ in 0..3000 {
         let card = random::small_card(&mut random);
-        let (mut netlist, mut list) = random::files(&mut random, &card, 2);
-        match random.below(3) {
-            0 => random::damage_netlist(&mut random, &card, &mut netlist),
-            _ => random::damage_list(&mut random, card.inputs, &mut list),
-        }
+        let (netlist, list) = random::damaged_files(&mut random, &card, 2);
         let change = random.pick(&[0, 1, 2, usize::MAX]);
         let output = random.pick(&[0, 1, 5, 64]);
-        let right = expected(&netlist, &list, change, output);
-        assert_eq!(library(&netlist, &list, change, output), right);
+        let right = right::core(&netlist, &list, change, output);
+        assert_eq!(found::core(&netlist, &list, change, output), right);
         met[right.0 as usize] += 1;
     }
     for (number, times) in met.iter().enumerate().take(20) {
@@ -336,7 +292,7 @@ fn verdict_is_the_class() {
             let classes = full::classes(&card, &inputs);
             for (output, signal) in card.outputs.iter().enumerate() {
                 let class = classes[*signal];
-                let (number, values) = library(&netlist, &list, change, output);
+                let (number, values) = found::core(&netlist, &list, change, output);
                 let wanted = match class.is_clean() {
                     true => (0, [0, u64::from(class.code())]),
                     false => (0, [1, 0]),

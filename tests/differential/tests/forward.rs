@@ -1,52 +1,12 @@
 //! `lane_forward` against the reference: the bytes of the whole buffer, the
 //! touched count and the sum of gates visited.
 
+use differential::{found, right, same_filling, Answer};
 use reference::cases;
 use reference::changes;
 use reference::classes::Class;
-use reference::forward::forward;
 use reference::netlist::{Card, Gate, Kind, MAX_GATES, MAX_INPUTS};
 use reference::random::{self, Random, Shape, SHAPES};
-
-extern "C" {
-    #[allow(clippy::too_many_arguments)]
-    fn lane_forward(
-        netlist: *const u8,
-        netlist_len: usize,
-        list: *const u8,
-        list_len: usize,
-        change: usize,
-        buffer: *mut u8,
-        buffer_len: usize,
-        answer: *mut u64,
-    ) -> u32;
-}
-
-/// The library's answer: the refusal number (0 none) and the five values.
-fn library(netlist: &[u8], list: &[u8], change: usize, buffer: &mut [u8]) -> (u32, [u64; 5]) {
-    let mut answer = [u64::MAX; 5];
-    // SAFETY: the slices, the buffer and the five values live through the call.
-    let number = unsafe {
-        lane_forward(
-            netlist.as_ptr(),
-            netlist.len(),
-            list.as_ptr(),
-            list.len(),
-            change,
-            buffer.as_mut_ptr(),
-            buffer.len(),
-            answer.as_mut_ptr(),
-        )
-    };
-    (number, answer)
-}
-
-fn expected(netlist: &[u8], list: &[u8], change: usize, buffer: &mut [u8]) -> (u32, [u64; 5]) {
-    match forward(netlist, list, change, buffer) {
-        Ok(counts) => (0, [counts.touched, counts.visited, 0, 0, 0]),
-        Err(refused) => (refused.number, [refused.place, 0, 0, 0, 0]),
-    }
-}
 
 /// What a run of comparisons has seen.
 #[derive(Default)]
@@ -76,18 +36,15 @@ impl Seen {
     }
 }
 
-/// Compares answers and buffers; gives back the answer and the buffer.
-fn compare(netlist: &[u8], list: &[u8], change: usize, length: usize) -> (u32, [u64; 5], Vec<u8>) {
-    let filled: Vec<u8> = (0..length).map(|at| 0xA0 | (at as u8 % 16)).collect();
-    let (mut found, mut wanted) = (filled.clone(), filled.clone());
-    let answer = library(netlist, list, change, &mut found);
-    let right = expected(netlist, list, change, &mut wanted);
-    assert_eq!(answer, right, "change {change} buffer {length}");
-    assert_eq!(found, wanted, "change {change} buffer {length}");
-    if right.0 != 0 {
-        assert_eq!(found, filled, "a refusal leaves the buffer");
-    }
-    (right.0, right.1, found)
+/// Compares answers and buffers; gives them back.
+fn compare(netlist: &[u8], list: &[u8], change: usize, length: usize) -> (Answer, Box<[u8]>) {
+    let compared = same_filling(
+        &format!("forward change {change}"),
+        length,
+        |buffer| found::forward(netlist, list, change, buffer),
+        |buffer| right::forward(netlist, list, change, buffer),
+    );
+    compared.unwrap()
 }
 
 /// All changes, buffers equal and longer.
@@ -96,7 +53,7 @@ fn compare_card(seen: &mut Seen, random: &mut Random, card: &Card, count: usize)
     let outputs = card.outputs.len();
     for change in 0..count {
         let longer = random.pick(&[0, 1, 7, 100]);
-        let (number, values, buffer) = compare(&netlist, &list, change, outputs + longer);
+        let ((number, values), buffer) = compare(&netlist, &list, change, outputs + longer);
         assert_eq!(number, 0);
         seen.note(&buffer[..outputs], values);
     }
@@ -107,7 +64,7 @@ fn mux_and_its_mending() {
     let (netlist, list) = (cases::mux_netlist(), cases::mux_list());
     let mut buffer = [0xEE; 2];
     assert_eq!(
-        library(&netlist, &list, 0, &mut buffer),
+        found::forward(&netlist, &list, 0, &mut buffer),
         (0, [2, 4, 0, 0, 0])
     );
     assert_eq!(buffer, [1, 0xEE]);
@@ -115,7 +72,7 @@ fn mux_and_its_mending() {
     let change = vec![Class::One, Class::One, Class::Fall];
     let list = changes::to_bytes(&netlist, &[change]);
     assert_eq!(
-        library(&netlist, &list, 0, &mut buffer),
+        found::forward(&netlist, &list, 0, &mut buffer),
         (0, [4, 0, 0, 0, 0])
     );
     assert_eq!(buffer, [0, 0xEE]);
@@ -185,7 +142,7 @@ fn buffers_of_every_length() {
         let card = random::card(&mut random, Shape::Shared, 6, 70, outputs);
         let (netlist, list) = random::files(&mut random, &card, 1);
         for length in 0..outputs + 5 {
-            let (number, _, _) = compare(&netlist, &list, 0, length);
+            let ((number, _), _) = compare(&netlist, &list, 0, length);
             assert_eq!(number, if length < outputs { 20 } else { 0 });
             compared += 1;
         }
@@ -204,7 +161,7 @@ fn change_numbers() {
         for change in past.into_iter().chain([usize::MAX]) {
             // 18 comes before 20, so the length does not matter.
             for length in [0, 1, 2, 50] {
-                assert_eq!(compare(&netlist, &list, change, length).0, 18);
+                assert_eq!(compare(&netlist, &list, change, length).0 .0, 18);
                 compared += 1;
             }
         }
@@ -218,14 +175,10 @@ fn damaged_files() {
     let mut met = [0; 22];
     for _ in 0..3000 {
         let card = random::small_card(&mut random);
-        let (mut netlist, mut list) = random::files(&mut random, &card, 2);
-        match random.below(3) {
-            0 => random::damage_netlist(&mut random, &card, &mut netlist),
-            _ => random::damage_list(&mut random, card.inputs, &mut list),
-        }
+        let (netlist, list) = random::damaged_files(&mut random, &card, 2);
         let change = random.pick(&[0, 1, 2, usize::MAX]);
         let length = random.pick(&[0, 1, 6, 70]);
-        met[compare(&netlist, &list, change, length).0 as usize] += 1;
+        met[compare(&netlist, &list, change, length).0 .0 as usize] += 1;
     }
     for number in (0..=18).chain([20]) {
         assert!(met[number] > 0, "refusal {number} not met: {met:?}");

@@ -1,63 +1,21 @@
 //! `lane_full` against the reference: the bytes of the whole buffer, accepted
 //! or refused.
 
+use differential::{found, right, same_filling};
 use reference::cases;
-use reference::full::simulate;
 use reference::netlist::{Card, MAX_GATES, MAX_INPUTS};
 use reference::random::{self, Random, SHAPES};
 
-extern "C" {
-    #[allow(clippy::too_many_arguments)]
-    fn lane_full(
-        netlist: *const u8,
-        netlist_len: usize,
-        list: *const u8,
-        list_len: usize,
-        change: usize,
-        buffer: *mut u8,
-        buffer_len: usize,
-        answer: *mut u64,
-    ) -> u32;
-}
-
-/// The library's answer: the refusal number (0 none) and the five values.
-fn library(netlist: &[u8], list: &[u8], change: usize, buffer: &mut [u8]) -> (u32, [u64; 5]) {
-    let mut answer = [u64::MAX; 5];
-    // SAFETY: the slices, the buffer and the five values live through the call.
-    let number = unsafe {
-        lane_full(
-            netlist.as_ptr(),
-            netlist.len(),
-            list.as_ptr(),
-            list.len(),
-            change,
-            buffer.as_mut_ptr(),
-            buffer.len(),
-            answer.as_mut_ptr(),
-        )
-    };
-    (number, answer)
-}
-
-fn expected(netlist: &[u8], list: &[u8], change: usize, buffer: &mut [u8]) -> (u32, [u64; 5]) {
-    match simulate(netlist, list, change, buffer) {
-        Ok(()) => (0, [0; 5]),
-        Err(refused) => (refused.number, [refused.place, 0, 0, 0, 0]),
-    }
-}
-
 /// Compares answers and buffers; gives back the refusal number.
 fn compare(netlist: &[u8], list: &[u8], change: usize, length: usize) -> u32 {
-    let filled: Vec<u8> = (0..length).map(|at| 0xA0 | (at as u8 % 16)).collect();
-    let (mut found, mut wanted) = (filled.clone(), filled.clone());
-    let answer = library(netlist, list, change, &mut found);
-    let right = expected(netlist, list, change, &mut wanted);
-    assert_eq!(answer, right, "change {change} buffer {length}");
-    assert_eq!(found, wanted, "change {change} buffer {length}");
-    if right.0 != 0 {
-        assert_eq!(found, filled, "a refusal leaves the buffer");
-    }
-    right.0
+    let compared = same_filling(
+        &format!("full change {change}"),
+        length,
+        |buffer| found::full(netlist, list, change, buffer),
+        |buffer| right::full(netlist, list, change, buffer),
+    );
+    let ((number, _), _) = compared.unwrap();
+    number
 }
 
 /// All changes, buffers equal and longer.
@@ -75,7 +33,7 @@ fn compare_card(random: &mut Random, card: &Card, count: usize) -> usize {
 fn mux() {
     let (netlist, list) = (cases::mux_netlist(), cases::mux_list());
     let mut buffer = [0xEE; 8];
-    assert_eq!(library(&netlist, &list, 0, &mut buffer), (0, [0; 5]));
+    assert_eq!(found::full(&netlist, &list, 0, &mut buffer), (0, [0; 5]));
     assert_eq!(buffer, [1, 1, 3, 2, 3, 2, 5, 0xEE]);
 }
 
@@ -162,11 +120,7 @@ fn damaged_files() {
     let (mut compared, mut refused) = (0, [0; 21]);
     for _ in 0..3000 {
         let card = random::small_card(&mut random);
-        let (mut netlist, mut list) = random::files(&mut random, &card, 2);
-        match random.below(3) {
-            0 => random::damage_netlist(&mut random, &card, &mut netlist),
-            _ => random::damage_list(&mut random, card.inputs, &mut list),
-        }
+        let (netlist, list) = random::damaged_files(&mut random, &card, 2);
         let change = random.pick(&[0, 1, 2, usize::MAX]);
         let length = random.pick(&[0, card.signals(), 2400]);
         refused[compare(&netlist, &list, change, length) as usize] += 1;

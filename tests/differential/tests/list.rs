@@ -3,6 +3,7 @@
 
 mod met;
 
+use differential::{found, right};
 use met::Met;
 use reference::cases;
 use reference::changes::{self, check};
@@ -10,43 +11,10 @@ use reference::classes::Class;
 use reference::netlist::Card;
 use reference::random::{self, Random, Shape};
 
-extern "C" {
-    fn lane_list(
-        netlist: *const u8,
-        netlist_len: usize,
-        list: *const u8,
-        list_len: usize,
-        answer: *mut u64,
-    ) -> u32;
-}
-
-/// The library's answer: the refusal number (0 none) and the five values.
-fn library(netlist: &[u8], list: &[u8]) -> (u32, [u64; 5]) {
-    let mut answer = [u64::MAX; 5];
-    // SAFETY: the slices and the five values live through the call.
-    let number = unsafe {
-        lane_list(
-            netlist.as_ptr(),
-            netlist.len(),
-            list.as_ptr(),
-            list.len(),
-            answer.as_mut_ptr(),
-        )
-    };
-    (number, answer)
-}
-
-fn expected(netlist: &[u8], list: &[u8]) -> (u32, [u64; 5]) {
-    match check(netlist, list) {
-        Ok(found) => (0, [found.changes, found.vector, 0, 0, 0]),
-        Err(refused) => (refused.number, [refused.place, 0, 0, 0, 0]),
-    }
-}
-
 fn compare(met: &mut Met, netlist: &[u8], list: &[u8]) {
     assert_eq!(
-        library(netlist, list),
-        expected(netlist, list),
+        found::list(netlist, list),
+        right::list(netlist, list),
         "netlist {:02X?} list {:02X?}",
         &netlist[..netlist.len().min(200)],
         &list[..list.len().min(200)]

@@ -3,42 +3,19 @@
 
 mod met;
 
+use differential::{found, right};
 use met::Met;
 use reference::cases;
 use reference::netlist::{check, Card, Gate, Kind, KINDS};
 use reference::random::{self, Field, Random, Shape};
 
-extern "C" {
-    fn lane_netlist(netlist: *const u8, netlist_len: usize, answer: *mut u64) -> u32;
-}
-
-/// The library's answer: the refusal number (0 none) and the five values.
-fn library(netlist: &[u8]) -> (u32, [u64; 5]) {
-    let mut answer = [u64::MAX; 5];
-    // SAFETY: the slice and the five values live through the call.
-    let number = unsafe { lane_netlist(netlist.as_ptr(), netlist.len(), answer.as_mut_ptr()) };
-    (number, answer)
-}
-
-fn expected(netlist: &[u8]) -> (u32, [u64; 5]) {
-    match check(netlist) {
-        Ok(found) => (
-            0,
-            [
-                found.inputs,
-                found.gates,
-                found.outputs,
-                found.pins,
-                found.entries_at,
-            ],
-        ),
-        Err(refused) => (refused.number, [refused.place, 0, 0, 0, 0]),
-    }
-}
-
 fn compare(met: &mut Met, netlist: &[u8]) {
     let shown = &netlist[..netlist.len().min(200)];
-    assert_eq!(library(netlist), expected(netlist), "netlist {shown:02X?}");
+    assert_eq!(
+        found::netlist(netlist),
+        right::netlist(netlist),
+        "netlist {shown:02X?}"
+    );
     met.note(check(netlist));
 }
 

@@ -415,6 +415,16 @@ pub fn damage_list(random: &mut Random, inputs: usize, list: &mut Vec<u8>) {
     }
 }
 
+/// A card's files, one of them damaged, the list more often than the netlist.
+pub fn damaged_files(random: &mut Random, card: &Card, count: usize) -> (Vec<u8>, Vec<u8>) {
+    let (mut netlist, mut list) = files(random, card, count);
+    match random.below(3) {
+        0 => damage_netlist(random, card, &mut netlist),
+        _ => damage_list(random, card.inputs, &mut list),
+    }
+    (netlist, list)
+}
+
 #[cfg(test)]
 mod tests {
     use super::*;

@@ -1,4 +1,4 @@
-//! Finds `liblanecard.a`: in the folder LANECARD_LIB, else in the project's
+//! Links `liblanecard.a`: from the folder LANECARD_LIB, else from the project's
 //! `target/staticlib`.
 
 use std::env;
@@ -17,7 +17,7 @@ fn library_folder() -> PathBuf {
 fn main() {
     let folder = library_folder();
     println!("cargo:rerun-if-env-changed=LANECARD_LIB");
-    // Relinks the tests whenever the archive is built anew.
+    // Links anew whenever the archive is built anew.
     println!(
         "cargo:rerun-if-changed={}",
         folder.join("liblanecard.a").display()

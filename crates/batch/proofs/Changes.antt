@@ -1,0 +1,144 @@
+-- The changes of an accepted list: the rows of each method, and how far it counts. Assumes nothing.
+use Prim.Native.Nat.{ℕ, zero, suc, _+_, _*_, _≤_, _<_}
+use native.Mathlib.Omega.{arith}
+use native.Mathlib.Numerals.{add-one}
+use native.Mathlib.Nat.{add-comm, suc-mul, le-trans, mul-le-mul}
+use mathlib.Core.Bool.{Bool, true, false}
+use mathlib.Core.Path.{_≡_, refl, sym, _∙_, ap, ap₂, subst, fun-ext}
+use mathlib.Core.List.{List, _++_}
+use mathlib.Core.Option.{Option}
+use lib.ListN.{length, drop}
+use Rattle.kung.specs.Class.{Class}
+use Rattle.kung.specs.Rule.{some}
+use Rattle.kung.specs.Sets.{bit, cleanSet}
+use Rattle.kung.specs.Tables.{tab, imageTable, wantedTable}
+use Rattle.circuit.specs.Circuit.{Card}
+use Rattle.netlist.specs.Words.{wordAt}
+use Rattle.netlist.specs.Netlist.{inputsOf, gatesOf, outputsOf, outputAt, placesOf, cardOf}
+use Rattle.netlist.specs.Formed.{Formed}
+use Rattle.netlist.proofs.Accepted.{formed}
+use Rattle.changes.specs.declared.Listed.the-variants.{Accepted}
+use Rattle.changes.specs.Changes.{widthOf, inputClassAt, written}
+use Rattle.changes.specs.Refusals.{listChecked}
+use Rattle.changes.proofs.Laws.{tab-length, written-all}
+use Rattle.changes.proofs.Accepted.{listed}
+use Rattle.simulate.proofs.Theorems.{codes-length}
+use Rattle.search.specs.Search.{Answer, search}
+use Rattle.search.specs.Pins.{sumBelow}
+use Rattle.core.specs.Source.{sourceFrom, GatesOnly, inputsKnown}
+use Rattle.core.specs.Core.{searchOf}
+use Rattle.core.specs.Outputs.{verdictByte, searchFrom, byteFrom, sumFrom, OutputsReady}
+use Rattle.core.proofs.Cards.{ready, inputs-only}
+use Rattle.core.proofs.Entry.{known-length, search-is}
+use Rattle.core.proofs.Outputs.{search-few}
+use Rattle.core.proofs.Theorems.{pins-within, gates-within}
+use Rattle.forward.specs.Constants.{isKnown, touched}
+use Rattle.forward.specs.Forward.{constantsIn, touchedIn, outputSearch, visitedIn, forwardBytes}
+use Rattle.batch.specs.Batch.{coreBytes, coreSum, fullOf, forwardOf, coreOf}
+use Rattle.batch.proofs.Rows.{Regular}
+
+-- numbers of at most b each
+sum-high : (f : ℕ → ℕ) (b n : ℕ) → ((k : ℕ) → k < n → f k ≤ b) → sumBelow f n ≤ n * b
+unfolding sumBelow
+sum-high f b zero h = omega arith
+sum-high f b (suc n) h = omega (arith, suc-mul n b, sum-high f b n (λ k l. h k (omega arith)), h n (omega arith))
+
+bit-high : (b : Bool) → bit b ≤ 1
+bit-high true = omega arith
+bit-high false = omega arith
+
+-- no more gates are touched than there are
+touched-few : (card : Card) (known : ℕ → Option Class) → touched card known ≤ card .gates
+unfolding touched
+touched-few card known =
+    le-trans
+    (sum-high (λ g. bit (some (λ x. isKnown (known x)) (card .pins g))) 1 (card .gates) (λ g h. bit-high (some (λ x. isKnown (known x)) (card .pins g))))
+    (omega arith)
+
+-- a sum over the first c changes, which stays far below 64 bits
+pub record Counted (f : ℕ → ℕ) (c sum : ℕ) : Type 0 where
+  pub is : sum ≡ sumBelow f c
+  pub high : sum ≤ 1179648 * c
+
+pub counted-none : (f : ℕ → ℕ) → Counted f 0 0
+unfolding sumBelow
+counted-none f = record { is = refl; high = omega arith }
+
+pub counted-next : {f : ℕ → ℕ} {c sum : ℕ} → Counted f c sum → (more : ℕ) → more ≡ f c → f c ≤ 1179648 → Counted f (c + 1) (sum + more)
+unfolding sumBelow
+counted-next {c = c} s more e h = record { is = rw (s .is, e, add-one c) (add-comm _ _); high = omega (arith, s .high) }
+
+module _ {i g o p e t w : ℕ} (n l : List ℕ) (accepted : listChecked n l ≡ Accepted i g o p e t w) where
+  pub card : Formed n i g o p e
+  card = formed n (listed n l accepted .netlist-accepted)
+
+  pub full-regular : Regular (fullOf n l) (i + g)
+  full-regular =
+      let wide : i + g ≡ inputsOf n + gatesOf n = omega (arith, card .inputs-are, card .gates-are) in
+      record { wide = wide; each = λ t. codes-length n l t ∙ sym wide }
+
+  pub forward-regular : Regular (forwardOf n l) o
+  unfolding forwardBytes
+  forward-regular = record { wide = card .outputs-are; each = λ t. tab-length _ 0 (outputsOf n) ∙ sym (card .outputs-are) }
+
+  pub core-regular : Regular (coreOf n l) o
+  unfolding coreBytes
+  core-regular = record { wide = card .outputs-are; each = λ t. tab-length _ 0 (outputsOf n) ∙ sym (card .outputs-are) }
+
+  -- what all rows together take fits
+  pub rows-fit : (w : ℕ) → w ≤ 2304 → t * w ≤ 2304000
+  rows-fit w h = mul-le-mul {n₁ = t} {m₁ = w} {n₂ = 1000} {m₂ = 2304} (listed n l accepted .changes-high) h
+
+  pub touched-high : (c : ℕ) → touchedIn n l c ≤ 1179648
+  unfolding touchedIn cardOf
+  touched-high c = omega (arith, touched-few (cardOf n) (constantsIn n l c), card .gates-are, card .gates-high)
+
+  -- a count of each output
+  outputs-high : (f : ℕ → ℕ) → ((k : ℕ) → k < o → f k ≤ 18432) → sumBelow f (outputsOf n) ≤ 1179648
+  outputs-high f h =
+      le-trans (sum-high f 18432 (outputsOf n) (λ k l. h k (omega (arith, card .outputs-are)))) (omega (arith, card .outputs-are, card .outputs-high))
+
+  pub visited-high : (c : ℕ) → visitedIn n l c ≤ 1179648
+  unfolding visitedIn outputSearch
+  visited-high c =
+      outputs-high _
+      (λ k h. le-trans (search-few _ _ (outputAt n k)) (omega (arith, card .output-below k h, card .inputs-high, card .gates-high)))
+
+  pub searched-high : (c : ℕ) → (coreSum (λ a. a .gates) n l c ≤ 1179648) × (coreSum (λ a. a .pins) n l c ≤ 1179648)
+  unfolding coreSum
+  searched-high c =
+      let pins : (k : ℕ) → searchOf n l c k .pins ≤ 16384 = λ k. omega (arith, pins-within n l accepted c k, card .pins-high, card .gates-high) in (
+        outputs-high _ (λ k h. omega (arith, gates-within n l accepted c k, pins k)),
+        outputs-high _ (λ k h. omega (arith, pins k)),
+      )
+
+  -- CORE on a change: the inputs are known, and no gate
+  module _ (c : ℕ) (known : List ℕ) (is : known ≡ inputsKnown n (inputClassAt l (widthOf (inputsOf n)) c)) where
+    signals : length known ≡ i + g
+    signals = ap length is ∙ known-length n card (inputClassAt l (widthOf (inputsOf n)) c)
+
+    pub searchable : {images wanteds : List ℕ} (places rest : List ℕ) (room : ℕ) → images ≡ imageTable → wanteds ≡ wantedTable
+        → places ≡ placesOf n g ++ rest → o ≤ room → OutputsReady images wanteds n places known i o e room
+    searchable places rest room images-are wanteds-are places-are enough =
+        record {
+          ready = ready n places rest images-are wanteds-are card places-are (subst (GatesOnly n) (sym is) (inputs-only n (inputClassAt l (widthOf (inputsOf n)) c)));
+          signals-high = omega (arith, signals, card .inputs-high, card .gates-high);
+          outputs-high = card .outputs-high;
+          output-below = λ out below. omega (arith, signals, rw (← card .entries-are) at (card .output-below out below));
+          enough = enough;
+        }
+
+    search-same : (out : ℕ) → searchFrom n known e out ≡ searchOf n l c out
+    unfolding searchFrom searchOf
+    search-same out =
+        ap₂ (λ k at. search (sourceFrom n k) cleanSet (wordAt n (at + 2 * out))) is (card .entries-are) ∙ search-is n l c cleanSet (outputAt n out)
+
+    pub sums-are : (count : Answer → ℕ) → sumFrom count n known e o ≡ coreSum count n l c
+    unfolding coreSum
+    sums-are count = ap₂ sumBelow (fun-ext (λ out. ap count (search-same out))) (card .outputs-are)
+
+    pub bytes-are : (old : List ℕ) → written old 0 (byteFrom n known e) o ≡ coreBytes n l c ++ drop o old
+    unfolding coreBytes
+    bytes-are old =
+        written-all old (byteFrom n known e) o
+        ∙ ap₂ (λ byte m. tab byte 0 m ++ drop o old) (fun-ext (λ out. ap (λ a. verdictByte (a .verdict)) (search-same out))) (card .outputs-are)

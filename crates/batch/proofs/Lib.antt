@@ -1,0 +1,4 @@
+pub mod Rows
+pub mod Theorems
+mod Answers
+mod Changes

@@ -1,0 +1,92 @@
+-- Every change of a list in one call: full simulation, the forward method and CORE for all changes, one after the other.
+use Prim.Native.Nat.{ℕ, zero, suc, _+_, _*_}
+use mathlib.Core.Bool.{cond}
+use mathlib.Core.List.{List, [], _++_}
+use lib.Dec.{ltb}
+use lib.ListN.{length, drop}
+use Rattle.kung.specs.Tables.{tab}
+use Rattle.netlist.specs.Netlist.{inputsOf, gatesOf, outputsOf}
+use Rattle.changes.specs.declared.Listed.{Listed}
+use Rattle.changes.specs.declared.Listed.the-variants as list
+use Rattle.changes.specs.Changes.{changesOf}
+use Rattle.changes.specs.Refusals.{listChecked}
+use Rattle.simulate.specs.Full.{codes}
+use Rattle.search.specs.Search.{Answer}
+use Rattle.search.specs.Pins.{sumBelow}
+use Rattle.core.specs.Core.{searchOf}
+use Rattle.core.specs.Outputs.{verdictByte}
+use Rattle.forward.specs.Forward.{touchedIn, visitedIn, forwardBytes}
+use Rattle.batch.specs.declared.Judged.{Judged}
+use Rattle.batch.specs.declared.Judged.the-variants.{Done, Refused}
+
+-- row 0, row 1 and so on, n rows, one after the other
+unfoldable pub rows : (ℕ → List ℕ) → ℕ → List ℕ
+rows f zero = []
+rows f (suc n) = rows f n ++ f n
+
+-- CORE for all outputs of a change: "0 (clean) or 1 (hazardous)" for each, and the gates visited, or the pins taken, in all
+unfoldable pub coreBytes : (netlist list : List ℕ) → (t : ℕ) → List ℕ
+coreBytes n l t = tab (λ o. verdictByte ((searchOf n l t o) .verdict)) 0 (outputsOf n)
+
+unfoldable pub coreSum : (Answer → ℕ) → (netlist list : List ℕ) → (t : ℕ) → ℕ
+coreSum count n l t = sumBelow (λ o. count (searchOf n l t o)) (outputsOf n)
+
+-- the rows of a list of T changes
+abbrev pub fullRows : (netlist list : List ℕ) → (T : ℕ) → List ℕ
+fullRows n l T = rows (codes n l) T
+
+abbrev pub forwardRows : (netlist list : List ℕ) → (T : ℕ) → List ℕ
+forwardRows n l T = rows (forwardBytes n l) T
+
+abbrev pub coreRows : (netlist list : List ℕ) → (T : ℕ) → List ℕ
+coreRows n l T = rows (coreBytes n l) T
+
+-- a method: the number of its bytes for a change, these bytes, and its two counts for T changes
+pub record Method : Type 0 where
+  pub width : ℕ
+  pub row : (t : ℕ) → List ℕ
+  pub first : (T : ℕ) → ℕ
+  pub second : (T : ℕ) → ℕ
+
+-- the class of each signal; nothing is counted
+abbrev pub fullOf : (netlist list : List ℕ) → Method
+fullOf n l = record { width = inputsOf n + gatesOf n; row = codes n l; first = λ T. 0; second = λ T. 0 }
+
+-- the verdict of each output; gates touched and gates visited, over all changes
+abbrev pub forwardOf : (netlist list : List ℕ) → Method
+forwardOf n l =
+    record { width = outputsOf n; row = forwardBytes n l; first = sumBelow (touchedIn n l); second = sumBelow (visitedIn n l) }
+
+-- the verdict of each output; gates visited and pins taken, over all changes and outputs
+abbrev pub coreOf : (netlist list : List ℕ) → Method
+coreOf n l =
+    record {
+      width = outputsOf n;
+      row = coreBytes n l;
+      first = sumBelow (coreSum (λ a. a .gates) n l);
+      second = sumBelow (coreSum (λ a. a .pins) n l);
+    }
+
+-- what a method answers for T changes
+abbrev pub doneFor : Method → (T : ℕ) → Judged
+doneFor m T = Done T (m .width) (m .first T) (m .second T)
+
+-- The list's refusals, then 20 where the buffer has fewer bytes than the rows.
+unfoldable pub judged : Method → Listed → (room : ℕ) → Judged
+judged m (list.Refused number place) room = Refused number place
+judged m (list.Accepted inputs gates outputs pins entries changes width) room = cond (ltb room (changes * m .width)) (Refused 20 0) (doneFor m changes)
+
+unfoldable pub allAnswer : Method → (netlist list buffer : List ℕ) → Judged
+allAnswer m n l buffer = judged m (listChecked n l) (length buffer)
+
+-- a buffer with the first T rows at its start
+abbrev pub rowed : Method → (T : ℕ) → (buffer : List ℕ) → List ℕ
+rowed m T buffer = rows (m .row) T ++ drop (T * m .width) buffer
+
+-- the rows at the buffer's start, later bytes stay; a refused call leaves the buffer as it was
+abbrev pub left : Judged → (written buffer : List ℕ) → List ℕ
+left (Done changes width a b) written buffer = written ++ drop (length written) buffer
+left (Refused number place) written buffer = buffer
+
+unfoldable pub allBuffer : Method → (netlist list buffer : List ℕ) → List ℕ
+allBuffer m n l buffer = left (allAnswer m n l buffer) (rows (m .row) (changesOf l)) buffer

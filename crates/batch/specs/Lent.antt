@@ -1,0 +1,31 @@
+-- What the code is lent and hands back.
+use Prim.Native.Nat.{ℕ, _*_, _≤_}
+use mathlib.Core.Path.{_≡_}
+use mathlib.Core.List.{List}
+use lib.ListN.{length, drop, replicate}
+use Rattle.changes.specs.declared.Listed.the-variants.{Accepted}
+use Rattle.changes.specs.Refusals.{listChecked}
+use Rattle.batch.specs.declared.Judged.{Judged}
+use Rattle.batch.specs.Batch.{Method, doneFor, rowed, allAnswer, allBuffer}
+
+-- an accepted list, and room for the rows of its changes
+pub record AllOf (m : Method) (netlist list : List ℕ) (inputs gates outputs entries width changes room : ℕ) : Type 0 where
+  pub pins : ℕ
+  pub accepted : listChecked netlist list ≡ Accepted inputs gates outputs pins entries changes width
+  pub enough : changes * m .width ≤ room
+
+-- CORE's room for one change after the other: a byte for each signal of the largest card, of which past the inputs nothing is known
+pub record Room (known cells : List ℕ) (inputs : ℕ) : Type 0 where
+  pub known-all : length known ≡ 2304
+  pub none-known : drop inputs known ≡ drop inputs (replicate 2304 8)
+  pub cells-all : length cells ≡ 2304
+
+-- a method's answer for the changes of an accepted list, and its rows
+pub record Judges (m : Method) (changes : ℕ) (entry exit : List ℕ) (r : Judged) : Type 0 where
+  pub answer : r ≡ doneFor m changes
+  pub bytes : exit ≡ rowed m changes entry
+
+-- its answer for any list, and what it leaves
+pub record Answers (m : Method) (netlist list entry exit : List ℕ) (r : Judged) : Type 0 where
+  pub answer : r ≡ allAnswer m netlist list entry
+  pub bytes : exit ≡ allBuffer m netlist list entry
