@@ -16,7 +16,7 @@ use Rattle.core.specs.Core.{searchOf, answered, guarded, coreAnswer}
 use Rattle.core.specs.Outputs.{verdictByte}
 use Rattle.core.proofs.Entry.{answers}
 use Rattle.core.proofs.Theorems.{pins-within}
-use Rattle.batch.specs.Batch.{rows, coreBytes, coreRows, Method}
+use Rattle.batch.specs.Batch.{rows, coreBytes, Method, coreOf}
 use Rattle.batch.proofs.Rows.{Regular, rows-length}
 use Rattle.batch.proofs.Changes.{card, core-regular}
 
@@ -44,7 +44,7 @@ getD-any (x ∷ l) (suc k) d e h = getD-any l k d e (omega arith)
 
 module _ {i g o p s T w : ℕ} (n l : List ℕ) (accepted : listChecked n l ≡ Accepted i g o p s T w) (t out : ℕ) (early : t < T) (is : out < o) where
   -- the byte of an output in a change is that of its search
-  pub core-byte : getD (coreRows n l T) (t * o + out) 2 ≡ verdictByte (searchOf n l t out .verdict)
+  pub core-byte : getD (rows (coreOf n l .row) T) (t * o + out) 2 ≡ verdictByte (searchOf n l t out .verdict)
   unfolding coreBytes
   core-byte =
       rows-at (core-regular n l accepted) T t out 2 early is

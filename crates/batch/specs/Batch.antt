@@ -31,16 +31,6 @@ coreBytes n l t = tab (λ o. verdictByte ((searchOf n l t o) .verdict)) 0 (outpu
 unfoldable pub coreSum : (Answer → ℕ) → (netlist list : List ℕ) → (t : ℕ) → ℕ
 coreSum count n l t = sumBelow (λ o. count (searchOf n l t o)) (outputsOf n)
 
--- the rows of a list of T changes
-abbrev pub fullRows : (netlist list : List ℕ) → (T : ℕ) → List ℕ
-fullRows n l T = rows (codes n l) T
-
-abbrev pub forwardRows : (netlist list : List ℕ) → (T : ℕ) → List ℕ
-forwardRows n l T = rows (forwardBytes n l) T
-
-abbrev pub coreRows : (netlist list : List ℕ) → (T : ℕ) → List ℕ
-coreRows n l T = rows (coreBytes n l) T
-
 -- a method: the number of its bytes for a change, these bytes, and its two counts for T changes
 pub record Method : Type 0 where
   pub width : ℕ
