@@ -2,4 +2,6 @@ pub mod Finite
 pub mod Laws
 pub mod SetLaws
 pub mod Listed
+pub mod Unions
+pub mod Doubled
 pub mod Places

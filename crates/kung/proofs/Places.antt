@@ -1,7 +1,6 @@
 -- What stands at a place of the tables. Assumes nothing.
-use mathlib.Core.Path.{_≡_, refl, sym, _∙_, ap, ap₂}
+use mathlib.Core.Path.{_≡_, sym, _∙_, ap, ap₂}
 use mathlib.Core.Bool.{cond}
-use mathlib.Core.List.{List}
 use Prim.Native.Nat.{ℕ, _+_, _*_, _/_, _%_, _<_}
 use native.Mathlib.Omega.{arith}
 use lib.Bits.{bitOr}
@@ -9,11 +8,12 @@ use lib.Dec.{eqb, ltb}
 use lib.ListN.{getD}
 use borrow.Author.Tests.{lt-ltb, le-ltb}
 use Rattle.kung.specs.Class.{Class, c0, code, classes, ofCode}
-use Rattle.kung.specs.Rule.{each, some, andAll, orAll, kindOf, gateClass}
-use Rattle.kung.specs.Operation.{Op, and, or, opAt, join, joinAll}
-use Rattle.kung.specs.Sets.{setOf, has, image, members}
-use Rattle.kung.specs.Tables.{tab, imageRule, imageTable, preimage, reach, blockRule, halfSet, wantedRule, wantedTable, gateRule, gateTable, placeOf}
-use Rattle.kung.proofs.Listed.{getD-tab, agree}
+use Rattle.kung.specs.Rule.{kindOf, gateClass}
+use Rattle.kung.specs.Operation.{Op, and, or, opAt}
+use Rattle.kung.specs.Sets.{image, members}
+use Rattle.kung.specs.Tables.{imageRule, imageTable, preimage, reach, blockRule, halfSet, wantedRule, wantedTable, gateRule, gateTable, placeOf}
+use Rattle.kung.proofs.Listed.{getD-tab}
+use Rattle.kung.proofs.Unions.{block-or, halves}
 
 -- an operation, a class and a set are read back from their place
 read : (f : Op → Class → ℕ → ℕ) (o p m : ℕ) → m < 256
@@ -33,17 +33,6 @@ module _ (o p m : ℕ) (h : m < 256) where
   unfolding imageTable imageRule
   image-at = getD-tab imageRule 4096 (placeOf o p m) (place-lt o p m h) ∙ read image o p m h
 
--- what a block has for a set is the union of what it has for the set's halves
-union : (b m : ℕ) → b < 18 → m < 256 → bitOr (blockRule b (m % 16)) (blockRule b (m / 16 * 16)) ≡ blockRule b m
-unfolding tab blockRule preimage reach setOf has some each join joinAll andAll orAll ofCode
-union b m low byte =
-    let c : (b * 256 + m) / 256 ≡ b = omega arith in
-    let d : (b * 256 + m) % 256 ≡ m = omega arith in
-    sym (λ i. bitOr (blockRule (c i) (d i % 16)) (blockRule (c i) (d i / 16 * 16)))
-    ∙ agree (λ i. bitOr (blockRule (i / 256) (i % 256 % 16)) (blockRule (i / 256) (i % 256 / 16 * 16))) (λ i. blockRule (i / 256) (i % 256)) 4608 refl
-    (b * 256 + m) (omega arith)
-    ∙ ap₂ blockRule c d
-
 -- entry k of a block
 entry : (b k m : ℕ) → b < 18 → k < 32 → cond (ltb k 16) (k % 16) (k % 16 * 16) ≡ m → getD wantedTable (b * 32 + k) 0 ≡ blockRule b m
 unfolding wantedTable wantedRule halfSet
@@ -55,7 +44,8 @@ entry b k m low less e =
 
 pub block-at : (b m : ℕ) → b < 18 → m < 256 → bitOr (getD wantedTable (b * 32 + m % 16) 0) (getD wantedTable (b * 32 + (16 + m / 16)) 0) ≡ blockRule b m
 block-at b m low byte =
-    ap₂ bitOr (entry b (m % 16) (m % 16) low (omega arith) lower) (entry b (16 + m / 16) (m / 16 * 16) low (omega arith) upper) ∙ union b m low byte
+    ap₂ bitOr (entry b (m % 16) (m % 16) low (omega arith) lower) (entry b (16 + m / 16) (m / 16 * 16) low (omega arith) upper)
+    ∙ sym (block-or b (m % 16) (m / 16 * 16)) ∙ ap (blockRule b) (halves m)
   where
     lower : cond (ltb (m % 16) 16) (m % 16 % 16) (m % 16 % 16 * 16) ≡ m % 16
     lower = rw (lt-ltb (m % 16) 16 (omega arith)) omega arith

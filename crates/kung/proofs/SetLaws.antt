@@ -1,62 +1,35 @@
 -- Laws of the sets of classes. Assumes nothing.
-use mathlib.Core.Path.{_≡_, refl, sym, _∙_, ap, subst}
+use mathlib.Core.Path.{_≡_, refl, sym, _∙_, ap}
 use mathlib.Core.Bool.{Bool, true, false, cond, _&&_, _||_, Bool·beq, false≢true}
 use mathlib.Core.List.{List, [], _∷_}
-use Prim.Native.Nat.{ℕ, zero, suc, _+_, _*_, _<_}
+use Prim.Native.Nat.{ℕ, zero, suc, _/_, _%_, _^_, _<_}
 use native.Mathlib.Omega.{arith}
 use lib.Count.{trailingZeros}
-use lib.Dec.{T, eqb, eqb→eq, eqb-refl, ltb, ltb→lt}
+use lib.Dec.{eqb, eqb→eq, eqb-refl, ltb, ltb→lt}
 use lib.ListN.{length, getD}
-use Rattle.kung.specs.Class.{Class, c0, c1, R, F, S0, S1, D+, D-, code, classes, same}
-use Rattle.kung.specs.Rule.{each, some, andAll, orAll, Kind, gateClass}
-use Rattle.kung.specs.Operation.{Op, and, or, opOf, inverts, join, joinAll, invertIf}
-use Rattle.kung.specs.Sets.{bit, setOf, has, meets, image, possible, wantedFor, swapIf, keep, members, insert, collect}
+use Rattle.kung.specs.Class.{Class, c0, code, classes, same}
+use Rattle.kung.specs.Rule.{some, invert, Kind, gateClass}
+use Rattle.kung.specs.Operation.{Op, opOf, inverts, join, joinAll, invertIf}
+use Rattle.kung.specs.Sets.{setOf, has, meets, image, possible, wantedFor, swapIf, keep, members, insert, collect}
 use Rattle.kung.specs.Tables.{preimage, reach}
-use Rattle.kung.proofs.Laws.{join-assoc, joinAll-cons, gateClass-op}
-use Rattle.kung.proofs.Finite.{everyOp, everyPair, pair-at, everyClass, everyBool, class-at, bool-at, same→≡, beq→≡, T→≡, ≡→T}
+use Rattle.kung.proofs.Laws.{join-assoc, join-comm, join-idem, joinAll-cons, gateClass-op}
+use Rattle.kung.proofs.Finite.{everyClass, class-at, same→≡, beq→≡, T→≡, ≡→T}
+use Rattle.kung.proofs.Unions.{nested, digit, eqb-bit}
 
--- a set's eight bits
-abbrev bits : (a b c d e f g h : Bool) → ℕ
-bits a b c d e f g h = bit a + 2 * bit b + 4 * bit c + 8 * bit d + 16 * bit e + 32 * bit f + 64 * bit g + 128 * bit h
+code-lt : (k : Class) → code k < 8
+unfolding everyClass
+code-lt k = ltb→lt (code k) 8 (class-at (λ k. ltb (code k) 8) tt k)
 
-abbrev pick : (a b c d e f g h : Bool) → Class → Bool
-pick a b c d e f g h c0 = a
-pick a b c d e f g h c1 = b
-pick a b c d e f g h R = c
-pick a b c d e f g h F = d
-pick a b c d e f g h S0 = e
-pick a b c d e f g h S1 = f
-pick a b c d e f g h D+ = g
-pick a b c d e f g h D- = h
-
-every8 : ((a b c d e f g h : Bool) → Class → Bool) → Bool
-every8 t =
-    everyBool (λ a. everyBool (λ b. everyBool (λ c. everyBool (λ d. everyBool (λ e. everyBool (λ f. everyBool (λ g. everyBool (λ h.
-    everyClass (t a b c d e f g h)))))))))
-
-bits-at : (t : (a b c d e f g h : Bool) → Class → Bool) → T (every8 t) → (a b c d e f g h : Bool) (k : Class) → T (t a b c d e f g h k)
-unfolding every8
-bits-at t p a b c d e f g h k =
-    class-at _ (bool-at _ (bool-at _ (bool-at _ (bool-at _ (bool-at _ (bool-at _ (bool-at _ (bool-at _ p a) b) c) d) e) f) g) h) k
+class-of : (k : Class) → getD classes (code k) c0 ≡ k
+unfolding everyClass
+class-of k = same→≡ _ _ (class-at (λ k. same (getD classes (code k) c0) k) tt k)
 
 -- a class is in the set of a test exactly where it passes
 pub has-setOf : (f : Class → Bool) (k : Class) → has (setOf f) k ≡ f k
-unfolding has setOf every8 everyBool everyClass
+unfolding has
 has-setOf f k =
-    beq→≡ _ _
-    (bits-at (λ a b c d e f g h k. Bool·beq (has (bits a b c d e f g h) k) (pick a b c d e f g h k)) tt (f c0) (f c1) (f R) (f F) (f S0) (f S1) (f D+)
-    (f D-) k)
-    ∙ picked k
-  where
-    picked : (k : Class) → pick (f c0) (f c1) (f R) (f F) (f S0) (f S1) (f D+) (f D-) k ≡ f k
-    picked c0 = refl
-    picked c1 = refl
-    picked R = refl
-    picked F = refl
-    picked S0 = refl
-    picked S1 = refl
-    picked D+ = refl
-    picked D- = refl
+    ap (λ (m : ℕ). eqb (m / 2 ^ code k % 2) 1) (nested f) ∙ ap (λ (x : ℕ). eqb x 1) (digit f classes (code k) (code-lt k))
+    ∙ eqb-bit (f (getD classes (code k) c0)) ∙ ap f (class-of k)
 
 and-left : (a b : Bool) → (a && b) ≡ true → a ≡ true
 and-left true b e = refl
@@ -81,14 +54,7 @@ some-at f d (x ∷ xs) (suc n) h e = either (f x) (some-at f d xs n (omega arith
     either false p = p
 
 pub some-intro : (f : Class → Bool) (k : Class) → f k ≡ true → some f classes ≡ true
-unfolding everyClass
-some-intro f k e = some-at f c0 classes (code k) (below k) (ap f (at k) ∙ e)
-  where
-    below : (k : Class) → code k < 8
-    below k = ltb→lt (code k) 8 (class-at (λ k. ltb (code k) 8) tt k)
-
-    at : (k : Class) → getD classes (code k) c0 ≡ k
-    at k = same→≡ _ _ (class-at (λ k. same (getD classes (code k) c0) k) tt k)
+some-intro f k e = some-at f c0 classes (code k) (code-lt k) (ap f (class-of k) ∙ e)
 
 -- and where some element passes there is one
 pub some-elim : {A : Type 0} (f : A → Bool) (xs : List A) → some f xs ≡ true → (x : A) × (f x ≡ true)
@@ -104,6 +70,10 @@ some-elim f (x ∷ xs) e = go (f x) refl (some-elim f xs)
 pub has-all : (k : Class) → has 255 k ≡ true
 unfolding has everyClass
 has-all k = T→≡ _ (class-at (has 255) tt k)
+
+has-none : (k : Class) → has 0 k ≡ false
+unfolding has everyClass
+has-none k = beq→≡ _ _ (class-at (λ k. Bool·beq (has 0 k) false) tt k)
 
 -- what p joined with a class of the set gives is in the image
 pub in-image : (o : Op) (p : Class) (m : ℕ) (k : Class) → has m k ≡ true → has (image o p m) (join o p k) ≡ true
@@ -197,42 +167,105 @@ module _ (o : Op) (inverted : Bool) (p : Class) (w : ℕ) where
           meets-intro _ w _ (in-possible o inverted (join o p k) true (x .0))
           (ap (λ z. has w (invertIf inverted z)) (join-assoc o p k (x .0)) ∙ sym (into (join o k (x .0))) ∙ x .1)
 
--- The forms in which the code makes the sets, by one test each.
+-- The forms in which the code makes the sets.
+has-one : (k x : Class) → has (insert 0 k) x ≡ same k x
+unfolding insert
+has-one k x = has-setOf (λ c. has 0 c || same k c) x ∙ (λ i. has-none x i || same k x)
+
+-- the image of one class has one class
+image-one : (o : Op) (p k : Class) → image o p (insert 0 k) ≡ setOf (same (join o p k))
+unfolding image
+image-one o p k = setOf-ext _ _ (λ c. iff→≡ _ _ (there c) (back c))
+  where
+    there : (c : Class) → some (λ x. has (insert 0 k) x && same (join o p x) c) classes ≡ true → same (join o p k) c ≡ true
+    there c e =
+        let w = some-elim (λ x. has (insert 0 k) x && same (join o p x) c) classes e in
+        ap (λ x. same (join o p x) c) (same-elim k (w .0) (sym (has-one k (w .0)) ∙ and-left (has (insert 0 k) (w .0)) _ (w .1)))
+        ∙ and-right (has (insert 0 k) (w .0)) _ (w .1)
+
+    back : (c : Class) → same (join o p k) c ≡ true → some (λ x. has (insert 0 k) x && same (join o p x) c) classes ≡ true
+    back c e = some-intro (λ x. has (insert 0 k) x && same (join o p x) c) k (rw (has-one k k ∙ same-refl k) e)
+
 pub lowest-image : (o : Op) (p k : Class) → trailingZeros 8 (image o p (insert 0 k)) ≡ code (join o p k)
-unfolding trailingZeros image insert has setOf some join joinAll andAll orAll each everyPair everyOp everyClass
-lowest-image o p k = eqb→eq _ _ (pair-at (λ o p k. eqb (trailingZeros 8 (image o p (insert 0 k))) (code (join o p k))) tt o p k)
+unfolding trailingZeros setOf everyClass
+lowest-image o p k =
+    ap (trailingZeros 8) (image-one o p k) ∙ eqb→eq _ _ (class-at (λ c. eqb (trailingZeros 8 (setOf (same c))) (code c)) tt (join o p k))
+
+same-invert : (b : Bool) (x c : Class) → same x (invertIf b c) ≡ same (invertIf b x) c
+unfolding everyClass
+same-invert true x c = beq→≡ _ _ (class-at (agrees x) (class-at (λ x. everyClass (agrees x)) tt x) c)
+  where
+    agrees : Class → Class → Bool
+    agrees x c = Bool·beq (same x (invert c)) (same (invert x) c)
+same-invert false x c = refl
 
 pub possible-left : (o : Op) (inverted : Bool) (p : Class) → swapIf inverted (image o p 255) ≡ possible o inverted p true
-unfolding swapIf image has setOf some possible join joinAll andAll orAll each everyPair everyOp everyClass
-possible-left o true p = eqb→eq _ _ (pair-at (λ o p k. eqb (swapIf true (image o p 255)) (possible o true p true)) tt o p p)
-possible-left o false p = eqb→eq _ _ (pair-at (λ o p k. eqb (swapIf false (image o p 255)) (possible o false p true)) tt o p p)
+unfolding swapIf image possible
+possible-left o inverted p =
+    setOf-ext _ _
+    (λ c. has-setOf (λ c. some (λ k. has 255 k && same (join o p k) c) classes) (invertIf inverted c)
+    ∙ (λ i. some (λ k. has-all k i && same-invert inverted (join o p k) c i) classes))
 
 pub possible-done : (o : Op) (inverted : Bool) (p : Class) → swapIf inverted (insert 0 p) ≡ possible o inverted p false
-unfolding swapIf insert has setOf some possible everyPair everyOp everyClass
-possible-done o true p = eqb→eq _ _ (pair-at (λ o p k. eqb (swapIf true (insert 0 p)) (possible o true p false)) tt o p p)
-possible-done o false p = eqb→eq _ _ (pair-at (λ o p k. eqb (swapIf false (insert 0 p)) (possible o false p false)) tt o p p)
-
-abbrev absorbTest : Op → (a b c d e f g h : Bool) → Class → Bool
-absorbTest o a b c d e f g h k =
-    same (joinAll o (keep (λ x. pick a b c d e f g h x || same k x) classes)) (join o k (joinAll o (keep (pick a b c d e f g h) classes)))
-
-absorbs : (o : Op) → T (every8 (absorbTest o))
-unfolding every8 everyBool everyClass keep join joinAll andAll orAll each some
-absorbs and = tt
-absorbs or = tt
+unfolding swapIf possible some
+possible-done o inverted p =
+    setOf-ext _ _ (λ c. has-one p (invertIf inverted c) ∙ same-invert inverted p c ∙ always (same (invertIf inverted p) c))
+  where
+    always : (b : Bool) → b ≡ some (λ k. b) classes
+    always true = refl
+    always false = refl
 
 -- a class joined in once more than the set has it changes nothing
-absorb : (o : Op) (f : Class → Bool) (k : Class) → joinAll o (keep (λ x. f x || same k x) classes) ≡ join o k (joinAll o (keep f classes))
-unfolding keep
-absorb o f k = same→≡ _ _ (bits-at (absorbTest o) (absorbs o) (f c0) (f c1) (f R) (f F) (f S0) (f S1) (f D+) (f D-) k)
+module _ (o : Op) (f : Class → Bool) (k : Class) where
+  kept : (g : Class → Bool) (x : Class) (ks : List Class)
+      → joinAll o (keep g (x ∷ ks)) ≡ cond (g x) (join o x (joinAll o (keep g ks))) (joinAll o (keep g ks))
+  unfolding keep
+  kept g x ks = go (g x)
+    where
+      go : (b : Bool) → joinAll o (cond b (x ∷ keep g ks) (keep g ks)) ≡ cond b (join o x (joinAll o (keep g ks))) (joinAll o (keep g ks))
+      go true = joinAll-cons o x (keep g ks)
+      go false = refl
+
+  exchange : (a b c : Class) → join o a (join o b c) ≡ join o b (join o a c)
+  exchange a b c = sym (join-assoc o a b c) ∙ ap (λ x. join o x c) (join-comm o a b) ∙ join-assoc o b a c
+
+  twice : (a c : Class) → join o a (join o a c) ≡ join o a c
+  twice a c = sym (join-assoc o a a c) ∙ ap (λ x. join o x c) (join-idem o a)
+
+  -- with one class x more in the list: is it in the set, is it k, was k in the list
+  step : (x c : Class) (a s r : Bool) → (s ≡ true → k ≡ x)
+      → cond (a || s) (join o x (cond r (join o k c) c)) (cond r (join o k c) c) ≡ cond (s || r) (join o k (cond a (join o x c) c)) (cond a (join o x c) c)
+  step x c true true true e = exchange x k c
+  step x c true true false e = sym (twice x c) ∙ ap (λ y. join o y (join o x c)) (sym (e refl))
+  step x c true false true e = exchange x k c
+  step x c true false false e = refl
+  step x c false true true e = ap (λ y. join o y (join o k c)) (sym (e refl)) ∙ twice k c
+  step x c false true false e = ap (λ y. join o y c) (sym (e refl))
+  step x c false false true e = refl
+  step x c false false false e = refl
+
+  absorb : (ks : List Class)
+      → joinAll o (keep (λ x. f x || same k x) ks) ≡ cond (some (same k) ks) (join o k (joinAll o (keep f ks))) (joinAll o (keep f ks))
+  unfolding keep some
+  absorb [] = refl
+  absorb (x ∷ ks) =
+      kept (λ x. f x || same k x) x ks ∙ ap (λ c. cond (f x || same k x) (join o x c) c) (absorb ks)
+      ∙ step x (joinAll o (keep f ks)) (f x) (same k x) (some (same k) ks) (same-elim k x)
+      ∙ ap (λ c. cond (same k x || some (same k) ks) (join o k c) c) (sym (kept f x ks))
+
+-- the join of a set with one class more
+pub join-more : (o : Op) (m n : ℕ) (k : Class) → ((x : Class) → has n x ≡ (has m x || same k x)) → joinAll o (members n) ≡ join o k (joinAll o (members m))
+join-more o m n k e =
+    (λ i. joinAll o (keep (λ x. e x i) classes)) ∙ absorb o (has m) k classes
+    ∙ ap (λ b. cond b (join o k (joinAll o (members m))) (joinAll o (members m))) (some-intro (same k) k (same-refl k))
 
 -- A gate's class depends on the set of its pins' classes alone.
 pub join-collect : (o : Op) (ps : List Class) → joinAll o (members (collect ps)) ≡ joinAll o ps
 unfolding collect keep has insert
 join-collect o [] = refl
 join-collect o (k ∷ ps) =
-    (λ i. joinAll o (keep (λ x. has-setOf (λ c. has (collect ps) c || same k c) x i) classes))
-    ∙ absorb o (has (collect ps)) k ∙ ap (join o k) (join-collect o ps) ∙ sym (joinAll-cons o k ps)
+    join-more o (collect ps) (insert (collect ps) k) k (has-setOf (λ c. has (collect ps) c || same k c)) ∙ ap (join o k) (join-collect o ps)
+    ∙ sym (joinAll-cons o k ps)
 
 pub gate-collect : (d : Kind) (ps : List Class) → gateClass d (members (collect ps)) ≡ gateClass d ps
 gate-collect d ps =

@@ -1,14 +1,66 @@
--- `kung::gate_table` meets its contract: antt computes the rule at each entry. Assumes nothing.
-use mathlib.Core.Path.{refl}
-use Rattle.kung.specs.Rule.{each, some, andAll, orAll, kindOf, gateClass}
-use Rattle.kung.specs.Sets.{has, keep}
-use Rattle.kung.specs.Tables.{tab, gateRule, gateTable}
+-- `kung::gate_table` meets its contract: antt computes a kind's row by joining in one class after the other. Assumes nothing.
+use mathlib.Core.Path.{_≡_, refl, sym, _∙_, ap}
+use mathlib.Core.Bool.{Bool, true, false, _||_}
+use Prim.Native.Nat.{ℕ, _+_, _*_, _/_, _%_, _^_, _<_}
+use native.Mathlib.Omega.{arith}
+use lib.Bits.{or-shifted-r}
+use lib.ListN.{getD}
+use Rattle.kung.specs.Class.{Class, c0, code, classes, ofCode, same}
+use Rattle.kung.specs.Rule.{each, some, andAll, orAll, Kind, kindOf, gateClass}
+use Rattle.kung.specs.Operation.{opOf, inverts, invertIf, join, joinAll}
+use Rattle.kung.specs.Sets.{has, keep, members}
+use Rattle.kung.specs.Tables.{gateRule, gateTable}
+use Rattle.kung.proofs.Finite.{ofCode-code}
+use Rattle.kung.proofs.Laws.{invert-invert, gateClass-op}
+use Rattle.kung.proofs.SetLaws.{has-setOf, join-more}
+use Rattle.kung.proofs.Unions.{has-or, one-class}
+use Rattle.kung.proofs.Doubled.{Doubles, doubled, rows, tab-rows}
 use Rattle.kung.proofs.gate_table.Statement.{statement}
 use Rattle.kung.proofs.gate_table.Tie as tie
 
+-- bit j joins in the class of code j
+has-more : (j m : ℕ) → j < 8 → m < 2 ^ j → (x : Class) → has (2 ^ j + m) x ≡ (has m x || same (getD classes j c0) x)
+has-more j m low h x =
+    let e : 2 ^ j + m ≡ 1 * 2 ^ j + m = omega arith in
+    ap (λ (n : ℕ). has n x) (e ∙ sym (or-shifted-r 1 j m h)) ∙ has-or m (1 * 2 ^ j) x
+    ∙ ap (λ b. has m x || b) (ap (λ (n : ℕ). has n x) (omega arith ∙ one-class j low) ∙ has-setOf (same (getD classes j c0)) x)
+
+rowRule : Kind → ℕ → ℕ
+rowRule d m = code (gateClass d (members m))
+
+step : Kind → ℕ → ℕ → ℕ
+step d j c = code (invertIf (inverts d) (join (opOf d) (getD classes j c0) (invertIf (inverts d) (ofCode c))))
+
+steps : (d : Kind) → Doubles 8 (step d) (rowRule d)
+unfolding rowRule step
+steps d j m low h =
+    ap code (gateClass-op d (members (2 ^ j + m)))
+    ∙ ap (λ k. code (invertIf (inverts d) k)) (join-more (opOf d) m (2 ^ j + m) (getD classes j c0) (has-more j m low h))
+    ∙ ap (λ k. code (invertIf (inverts d) (join (opOf d) (getD classes j c0) k))) (sym back)
+  where
+    again : (b : Bool) (k : Class) → invertIf b (invertIf b k) ≡ k
+    again true k = invert-invert k
+    again false k = refl
+
+    back : invertIf (inverts d) (ofCode (code (gateClass d (members m)))) ≡ joinAll (opOf d) (members m)
+    back =
+        ap (invertIf (inverts d)) (ofCode-code (gateClass d (members m)) ∙ gateClass-op d (members m))
+        ∙ again (inverts d) (joinAll (opOf d) (members m))
+
+in-row : (r m : ℕ) → m < 256 → gateRule (r * 256 + m) ≡ rowRule (kindOf r) m
+unfolding gateRule rowRule
+in-row r m h =
+    let a : (r * 256 + m) / 256 ≡ r = omega arith in
+    let b : (r * 256 + m) % 256 ≡ m = omega arith in
+    λ i. code (gateClass (kindOf (a i)) (members (b i)))
+
+by-rows : gateTable ≡ rows (λ r. doubled (step (kindOf r)) (rowRule (kindOf r) 0) 8) 0 8
+unfolding gateTable
+by-rows = tab-rows 8 gateRule (λ r. rowRule (kindOf r)) (λ r. step (kindOf r)) in-row (λ r. steps (kindOf r)) 8 0
+
 returns : tie.Need-returns
-unfolding gateTable tab gateRule gateClass kindOf andAll orAll each some has keep
-returns c = refl
+unfolding rows doubled step rowRule gateClass kindOf join joinAll andAll orAll each some has keep ofCode
+returns c = refl ∙ sym by-rows
 
 pub gate-table-spec : {M : Type 1} → statement M
 gate-table-spec = tie.close (tie.spec returns)

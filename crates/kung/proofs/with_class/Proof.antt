@@ -1,13 +1,14 @@
--- `kung::with_class` meets its contract, by the list of its values.  Assumes nothing.
-use mathlib.Core.Path.{refl}
+-- `kung::with_class` meets its contract: a union with the set of one class. Assumes nothing.
+use mathlib.Core.Path.{_∙_, refl, sym, ap₂}
 use Prim.Native.Nat.{_*_, _%_, _^_}
 use native.Mathlib.Omega.{arith}
 use lib.Bits.{bitOr}
 use lib.ListN.{getD}
-use Rattle.kung.specs.Class.{c0, classes, ofCode}
-use Rattle.kung.specs.Sets.{insert, setOf, has}
+use Rattle.kung.specs.Class.{c0, classes, ofCode, same}
+use Rattle.kung.specs.Sets.{insert, has}
 use Rattle.kung.specs.Tables.{tab}
-use Rattle.kung.proofs.Listed.{agree8}
+use Rattle.kung.proofs.Listed.{agree}
+use Rattle.kung.proofs.Unions.{setOf-or, set-of-has, one-class}
 use borrow.Author.Needs.{needs}
 use Rattle.kung.proofs.with_class.Statement.{statement}
 use Rattle.kung.proofs.with_class.Tie as tie
@@ -16,9 +17,13 @@ shl-result : tie.Need-shl-result
 shl-result c = search needs
 
 returns : tie.Need-returns
-unfolding ofCode insert setOf has tab
+unfolding ofCode insert tab
 returns c =
-    agree8 (λ m x. bitOr m (1 * 2 ^ x % 256)) (λ m x. insert m (getD classes x c0)) refl (c .args .set) (c .args .class % 8) (omega arith) (omega arith)
+    let m = c .args .set in
+    let k = c .args .class % 8 in
+    ap₂ bitOr (sym (set-of-has m (omega arith)))
+    (agree (λ x. 1 * 2 ^ x % 256) (λ x. 2 ^ x) 8 refl k (omega arith) ∙ one-class k (omega arith))
+    ∙ sym (setOf-or (has m) (same (getD classes k c0)))
 
 pub with-class-spec : {M : Type 1} → statement M
 with-class-spec = tie.close (tie.spec shl-result returns)
