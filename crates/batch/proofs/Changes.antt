@@ -13,7 +13,7 @@ use Rattle.kung.specs.Rule.{some}
 use Rattle.kung.specs.Sets.{bit, cleanSet}
 use Rattle.kung.specs.Tables.{tab, imageTable, wantedTable}
 use Rattle.circuit.specs.Circuit.{Card}
-use Rattle.netlist.specs.Words.{wordAt}
+use Rattle.words.specs.Words.{wordAt}
 use Rattle.netlist.specs.Netlist.{inputsOf, gatesOf, outputsOf, outputAt, placesOf, cardOf}
 use Rattle.netlist.specs.Formed.{Formed}
 use Rattle.netlist.proofs.Accepted.{formed}

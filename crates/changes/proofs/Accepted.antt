@@ -5,10 +5,10 @@ use mathlib.Core.Path.{_≡_, refl, _∙_, ap}
 use mathlib.Core.Bool.{Bool, true, false}
 use mathlib.Core.List.{List}
 use borrow.Author.Tests.{eqb-true, not-false}
+use Rattle.words.proofs.Laws.{within}
 use Rattle.netlist.specs.Netlist.{checked}
 use Rattle.netlist.specs.declared.Checked.{Checked}
 use Rattle.netlist.specs.declared.Checked.the-variants as netlist
-use Rattle.netlist.proofs.Laws.{within}
 use Rattle.netlist.proofs.Accepted.{formed}
 use Rattle.changes.specs.declared.Listed.{Listed}
 use Rattle.changes.specs.declared.Listed.the-variants.{Accepted, Refused}

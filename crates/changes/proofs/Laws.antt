@@ -10,7 +10,7 @@ use lib.Bits.{bitXor}
 use lib.Dec.{eqb}
 use Rattle.kung.specs.Class.{code, inputClass}
 use Rattle.kung.specs.Tables.{tab}
-use Rattle.netlist.specs.Words.{byteAt}
+use Rattle.words.specs.Words.{byteAt}
 use Rattle.changes.specs.Changes.{sizeOf, bitAt, inputClassAt, codeAt, codeIn, written}
 
 -- a change's place is a small number

@@ -7,12 +7,12 @@ use mathlib.Core.Bool.{true, false}
 use mathlib.Core.List.{List, [], _∷_}
 use borrow.Author.Tests.{le-ltb, ltb-false, eqb-true, not-false}
 use Rattle.circuit.specs.Circuit.{Each}
+use Rattle.words.specs.Words.{tieOf}
+use Rattle.words.proofs.Laws.{within}
 use Rattle.netlist.specs.declared.Checked.{Checked}
 use Rattle.netlist.specs.declared.Checked.the-variants as netlist
-use Rattle.netlist.specs.Words.{tieOf}
 use Rattle.netlist.specs.Netlist.{inputsOf, accepted}
 use Rattle.netlist.specs.Proper.{Condition, when, firstMet, conditions}
-use Rattle.netlist.proofs.Laws.{within}
 use Rattle.netlist.proofs.Proper.{proper→accepted, accepted→proper, Unmet, first-append, none-met, first-refusal}
 use Rattle.changes.specs.declared.Listed.{Listed}
 use Rattle.changes.specs.declared.Listed.the-variants.{Accepted, Refused}

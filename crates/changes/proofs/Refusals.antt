@@ -7,10 +7,10 @@ use mathlib.Core.List.{List}
 use borrow.Author.Tests.{lt-ltb, le-ltb, eq-eqb, ne-eqb}
 use lib.Dec.{eqb}
 use lib.ListN.{length}
-use Rattle.netlist.specs.Words.{byteAt, wordAt, longAt, marked, outside, tieOf}
+use Rattle.words.specs.Words.{byteAt, wordAt, longAt, marked, outside, tieOf}
+use Rattle.words.proofs.Laws.{outside-above, inside}
 use Rattle.netlist.specs.Netlist.{checked}
 use Rattle.netlist.specs.declared.Checked.the-variants as netlist
-use Rattle.netlist.proofs.Laws.{outside-above, inside}
 use Rattle.changes.specs.declared.Listed.{Listed}
 use Rattle.changes.specs.declared.Listed.the-variants.{Accepted, Refused}
 use Rattle.changes.specs.Changes.{changesOf, widthOf, sizeOf}

@@ -7,7 +7,7 @@ use lib.ListN.{take, drop}
 use Rattle.kung.specs.Class.{Class, c0, code, inputClass}
 use Rattle.kung.specs.Tables.{tab}
 use Rattle.circuit.specs.Circuit.{Source, sources}
-use Rattle.netlist.specs.Words.{byteAt, wordAt}
+use Rattle.words.specs.Words.{byteAt, wordAt}
 use Rattle.netlist.specs.Netlist.{inputsOf, cardOf}
 
 -- "`LCT`, a 16-bit version (1), the netlist's tie (32 bits), a 16-bit count T (0 to 1,000), then T changes, numbered from 0."

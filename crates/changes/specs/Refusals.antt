@@ -4,7 +4,7 @@ use mathlib.Core.Bool.{Bool, cond, not}
 use mathlib.Core.List.{List}
 use lib.Dec.{eqb, ltb}
 use lib.ListN.{length}
-use Rattle.netlist.specs.Words.{byteAt, wordAt, longAt, marked, outside, tieOf}
+use Rattle.words.specs.Words.{byteAt, wordAt, longAt, marked, outside, tieOf}
 use Rattle.netlist.specs.Netlist.{checked}
 use Rattle.netlist.specs.declared.Checked.{Checked}
 use Rattle.netlist.specs.declared.Checked.the-variants as netlist

@@ -4,13 +4,13 @@ ghost use mathlib.Core.List.{_++_};
 ghost use Prim.Native.Nat.{_+_, _*_, _/_, _^_, _≤_, _<_};
 ghost use lib.ListN.{length, drop};
 ghost use Rattle.kung.specs.Class.{code};
-ghost use Rattle.netlist.specs.Words.{byteAt};
+ghost use Rattle.words.specs.Words.{byteAt};
 ghost use Rattle.changes.specs.Changes.{widthOf, sizeOf, inputClassAt, inputCodes, codeIn, written};
 ghost use Rattle.changes.specs.Refusals.{sparesFrom, afterNetlist, listChecked};
 use netlist::Checked;
-use netlist::byte_at;
-use netlist::long_at;
-use netlist::word_at;
+use words::byte_at;
+use words::long_at;
+use words::word_at;
 
 // The answer of a check: the netlist's counts, pins and place of the output entries, the number of changes and the bytes of a vector, or
 // the number and place of a refusal.
@@ -66,7 +66,7 @@ fn check_list(list: &[u8], inputs: usize, tie: u32, next: Listed) -> Listed
     if list.len() < 11 {
         return Listed::Refused(11, list.len());
     }
-    if !netlist::is_marked(list, b'L', b'C', b'T') {
+    if !words::is_marked(list, b'L', b'C', b'T') {
         return Listed::Refused(12, 0);
     }
     if word_at(list, 3) != 1 {
@@ -100,7 +100,7 @@ pub fn check(netlist: &[u8], list: &[u8]) -> Listed
             pins,
             entries,
         } => {
-            let tie = netlist::tie(netlist);
+            let tie = words::tie(netlist);
             let changes = word_at(list, 9) as usize;
             let width = (inputs + 7) / 8;
             let next = Listed::Accepted {

@@ -15,9 +15,10 @@ use Rattle.kung.proofs.Finite.{ofCode-code}
 use Rattle.kung.proofs.Listed.{getD-tab}
 use Rattle.circuit.specs.Circuit.{Source, given, gate, pinsOf, Each, Falling, WellFormed, sources}
 use Rattle.circuit.proofs.Laws.{sources-cases}
+use Rattle.words.proofs.Laws.{words-length}
 use Rattle.netlist.specs.Netlist.{inputsOf, gatesOf, countAt, placeOf, placesOf, pinsBelow, pinTotal, gateKind, gatePins, cardOf}
 use Rattle.netlist.specs.Formed.{Formed}
-use Rattle.netlist.proofs.Laws.{words-length, places-length, places-at}
+use Rattle.netlist.proofs.Laws.{places-length, places-at}
 use Rattle.search.specs.Search.{search}
 use Rattle.search.specs.Pins.{sumBelow, pinsIn}
 use Rattle.search.proofs.Writes.{closed-all}

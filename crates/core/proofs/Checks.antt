@@ -11,9 +11,9 @@ use Rattle.kung.specs.Class.{Class, code, ofCode}
 use Rattle.kung.specs.Rule.{kindOf}
 use Rattle.kung.specs.Operation.{opOf, inverts, unit}
 use Rattle.kung.specs.Sets.{possible}
-use Rattle.netlist.specs.Words.{wordsAt}
+use Rattle.words.specs.Words.{wordsAt}
+use Rattle.words.proofs.Laws.{words-length}
 use Rattle.netlist.specs.Netlist.{kindAt, countAt}
-use Rattle.netlist.proofs.Laws.{words-length}
 use Rattle.search.specs.Search.{nextOf, cellOf, possibleOf, only, Waiting, sameResult, knownOr, checks, toldOr, driverOf}
 use Rattle.search.proofs.Steps.{left-is}
 use Rattle.core.specs.declared.Driver.the-variants.{Told, Behind}

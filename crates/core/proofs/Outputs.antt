@@ -12,7 +12,7 @@ use Rattle.kung.specs.Class.{Class}
 use Rattle.kung.specs.Sets.{setOf}
 use Rattle.kung.specs.Operation.{opOf, unit}
 use Rattle.circuit.specs.Circuit.{Source, given, gate}
-use Rattle.netlist.specs.Words.{wordAt}
+use Rattle.words.specs.Words.{wordAt}
 use Rattle.netlist.specs.Netlist.{gatesOf, countAt, placeOf, pinsBelow}
 use Rattle.changes.specs.Changes.{written}
 use Rattle.changes.proofs.Laws.{written-more}

@@ -8,8 +8,8 @@ use lib.ListN.{length, getD, List·getD-eq-default}
 use borrow.Author.Tests.{lt-ltb, le-ltb}
 use Rattle.kung.specs.Class.{ofCode}
 use Rattle.circuit.specs.Circuit.{given, gate, Each, WellFormed}
+use Rattle.words.proofs.Laws.{words-length, words-at}
 use Rattle.netlist.specs.Netlist.{inputsOf, gatesOf, pinAt, cardOf}
-use Rattle.netlist.proofs.Laws.{words-length, words-at}
 use Rattle.core.specs.Source.{placeFrom, kindFrom, countFrom, pinsFrom, sourceFrom, Indexed}
 
 pub source-given : (netlist known : List ℕ) (s : ℕ) → getD known s 0 < 8 → sourceFrom netlist known s ≡ given (ofCode (getD known s 0))

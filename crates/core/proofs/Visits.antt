@@ -15,7 +15,7 @@ use Rattle.kung.specs.Operation.{opOf, inverts, invertIf, join}
 use Rattle.kung.specs.Sets.{meets, possible, wantedFor}
 use Rattle.kung.proofs.Finite.{ofCode-code}
 use Rattle.circuit.specs.Circuit.{given, gate}
-use Rattle.netlist.proofs.Laws.{words-length}
+use Rattle.words.proofs.Laws.{words-length}
 use Rattle.search.specs.Search.{new, kept, nextOf, cellOf, cellAt, put, possibleOf, only, Waiting, waits, Outcome, stopped, known, unfinished, sameResult, knownOr, checks, Driver, told, behind, driverOf, toldOr, Ended, Visit, fetch, react, takePin, takePins, visit}
 use Rattle.search.proofs.Laws.{only-last}
 use Rattle.search.proofs.Steps.{left-is, visit-gate, pins-end, pins-step}

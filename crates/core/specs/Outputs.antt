@@ -3,7 +3,7 @@ use Prim.Native.Nat.{ℕ, _+_, _*_, _≤_, _<_}
 use mathlib.Core.List.{List}
 use lib.ListN.{length}
 use Rattle.kung.specs.Sets.{cleanSet}
-use Rattle.netlist.specs.Words.{wordAt}
+use Rattle.words.specs.Words.{wordAt}
 use Rattle.search.specs.Search as search
 use Rattle.search.specs.Search.{Answer, search}
 use Rattle.search.specs.Pins.{sumBelow}

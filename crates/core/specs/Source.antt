@@ -9,7 +9,7 @@ use Rattle.kung.specs.Class.{Class, code, ofCode}
 use Rattle.kung.specs.Rule.{Kind, kindOf}
 use Rattle.kung.specs.Tables.{tab, imageTable, wantedTable}
 use Rattle.circuit.specs.Circuit.{Source, given, gate, WellFormed}
-use Rattle.netlist.specs.Words.{wordsAt}
+use Rattle.words.specs.Words.{wordsAt}
 use Rattle.netlist.specs.Netlist.{inputsOf, gatesOf, kindAt, countAt, pastRecord, placeOf, gateKind, gatePins, cardOf}
 
 -- the gate of signal s: the place of its record, its kind and its pins

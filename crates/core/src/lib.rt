@@ -24,7 +24,7 @@ use kung::possible_set;
 use kung::wanted_set;
 use netlist::count_at;
 use netlist::kind_at;
-use netlist::word_in;
+use words::word_in;
 
 // How a visit ends, as a number: the class of a gate that is known, UNFINISHED and the result that the waiting gate takes, or STOPPED.
 const UNFINISHED: u8 = 8;

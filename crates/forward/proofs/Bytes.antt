@@ -12,7 +12,7 @@ use Rattle.kung.specs.Rule.{some}
 use Rattle.kung.specs.Sets.{bit}
 use Rattle.kung.specs.Tables.{tab}
 use Rattle.kung.proofs.Listed.{getD-tab}
-use Rattle.netlist.specs.Words.{wordAt, wordsAt}
+use Rattle.words.specs.Words.{wordAt, wordsAt}
 use Rattle.netlist.specs.Netlist.{gatePins}
 use Rattle.changes.specs.Changes.{written}
 use Rattle.changes.proofs.Laws.{tab-length}

@@ -19,8 +19,8 @@ use Rattle.kung.specs.Tables.{tab, imageTable, wantedTable}
 use Rattle.kung.proofs.Finite.{everyClass, class-at, beq→≡, ofCode-code}
 use Rattle.circuit.specs.Circuit.{Source, given, gate, outOf, Each, value}
 use Rattle.circuit.proofs.Laws.{each-map, value-law, sources-cases}
+use Rattle.words.specs.Words.{wordAt}
 use Rattle.netlist.specs.Netlist.{inputsOf, gatesOf, placesOf, gateKind, gatePins, cardOf}
-use Rattle.netlist.specs.Words.{wordAt}
 use Rattle.netlist.specs.Formed.{Formed}
 use Rattle.netlist.proofs.Accepted.{formed}
 use Rattle.changes.specs.declared.Listed.the-variants.{Accepted}

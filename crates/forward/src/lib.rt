@@ -4,7 +4,7 @@ ghost use mathlib.Core.List.{_++_};
 ghost use Prim.Native.Nat.{_+_, _*_, _≤_, _<_};
 ghost use lib.ListN.{length, drop};
 ghost use Rattle.circuit.specs.Circuit.{Each};
-ghost use Rattle.netlist.specs.Words.{wordsAt};
+ghost use Rattle.words.specs.Words.{wordsAt};
 ghost use Rattle.simulate.specs.Pass.{Spreads};
 ghost use Rattle.forward.specs.Known.{anyConstant, touchedBy, knownOr8, knownCodes};
 ghost use Rattle.forward.specs.Lent.{ChangeOf, Judgeable};
@@ -17,7 +17,7 @@ fn has_constant(netlist: &[u8], at: usize, count: usize, classes: &[u8]) -> bool
     ensures { λ r. ⌜ r ≡ anyConstant (now (classes .entry)) (wordsAt count (now (netlist .entry)) at) ⌝ }
 {
     for k in 0..count {
-        let pin = netlist::word_in(netlist, at + 2 * k) as usize;
+        let pin = words::word_in(netlist, at + 2 * k) as usize;
         if classes[pin] < 2 {
             return true;
         }

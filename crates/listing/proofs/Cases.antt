@@ -6,7 +6,7 @@ use Rattle.kung.specs.Operation.{join, joinAll}
 use Rattle.kung.specs.Sets.{setOf, has, meets, image, possible, wantedFor}
 use Rattle.circuit.specs.Circuit.{sources, values, value}
 use Rattle.circuit.specs.Settled.{classOf}
-use Rattle.netlist.specs.Words.{wordAt, longAt, wordsAt, marked, outside, tieFrom, tieOf}
+use Rattle.words.specs.Words.{wordAt, longAt, wordsAt, marked, outside, tieFrom, tieOf}
 use Rattle.netlist.specs.Netlist as netlist
 use Rattle.changes.specs.Changes.{bitAt, inputClassAt, sourcesOf}
 use Rattle.changes.specs.Refusals as list

@@ -9,14 +9,15 @@ use borrow.Author.Tests.{leb-false, ltb-false}
 use lib.Dec.{leb}
 use lib.ListN.{length}
 use Rattle.circuit.specs.Circuit.{Each}
+use Rattle.words.specs.Words.{wordAt, wordsAt}
+use Rattle.words.proofs.Laws.{within}
 use Rattle.netlist.specs.declared.Checked.{Checked}
 use Rattle.netlist.specs.declared.Checked.the-variants.{Accepted}
-use Rattle.netlist.specs.Words.{wordAt, wordsAt}
 use Rattle.netlist.specs.Netlist.{inputsOf, gatesOf, outputsOf, kindAt, countAt, pinAt, placeOf, pinsBelow, pinTotal, entriesAt, outputsEnd, cardOf}
 use Rattle.netlist.specs.Netlist.{refuse, wordsBelow, noKind, leastPins, mostPins, recordAt, recordsFrom}
 use Rattle.netlist.specs.Netlist.{opening, counts, outputs, accepted, body, bodyWithin, checkedWithin, checked}
 use Rattle.netlist.specs.Formed.{RecordFormed, Formed}
-use Rattle.netlist.proofs.Laws.{within, place-pins}
+use Rattle.netlist.proofs.Laws.{place-pins}
 
 -- words below a bound, one by one and as a list
 each-word : (n : ℕ) (s : List ℕ) (at bound : ℕ) → ((k : ℕ) → k < n → wordAt s (at + 2 * k) < bound) → Each (λ x. x < bound) (wordsAt n s at)

@@ -9,10 +9,10 @@ use mir.Val.{boolByte}
 use borrow.Author.Tests.{le-leb, lt-leb, leb-true, leb-false, lt-ltb, le-ltb, ltb-true, ltb-false}
 use lib.Dec.{eqb, leb, ltb}
 use lib.ListN.{length}
+use Rattle.words.specs.Words.{wordAt, outside}
+use Rattle.words.proofs.Laws.{outside-below, outside-above, inside, within}
 use Rattle.netlist.specs.declared.Checked.{Checked}
-use Rattle.netlist.specs.Words.{wordAt, outside}
 use Rattle.netlist.specs.Netlist.{kindAt, countAt, pastRecord, wordsBelow, noKind, leastPins, mostPins, recordAt, leading, unfit, plainCount}
-use Rattle.netlist.proofs.Laws.{outside-below, outside-above, inside, within}
 use Rattle.netlist.proofs.Accepted.{least-some, most-eight}
 use Rattle.netlist.proofs.Refusals.{pass, record-pins}
 

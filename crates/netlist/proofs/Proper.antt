@@ -8,15 +8,15 @@ use mathlib.Core.List.{List, [], _∷_, _++_}
 use borrow.Author.Tests.{lt-leb, le-ltb, ltb-false, eqb-true, not-false}
 use lib.ListN.{length}
 use Rattle.circuit.specs.Circuit.{Each}
+use Rattle.words.specs.Words.{wordAt, outside}
+use Rattle.words.proofs.Laws.{inside}
 use Rattle.netlist.specs.declared.Checked.{Checked}
 use Rattle.netlist.specs.declared.Checked.the-variants.{Accepted, Refused}
-use Rattle.netlist.specs.Words.{wordAt, outside}
 use Rattle.netlist.specs.Netlist.{inputsOf, gatesOf, outputsOf, kindAt, countAt, placeOf, entriesAt, outputsEnd}
 use Rattle.netlist.specs.Netlist.{refuse, wordsBelow, noKind, leastPins, mostPins, recordAt, recordsFrom}
 use Rattle.netlist.specs.Netlist.{opening, counts, outputs, accepted, body, bodyWithin, checkedWithin, checked}
 use Rattle.netlist.specs.Proper.{ProperRecord, Proper, Condition, when, firstMet}
 use Rattle.netlist.specs.Proper.{wordConditions, headConditions, recordConditions, recordsConditions, outputConditions, conditions}
-use Rattle.netlist.proofs.Laws.{inside}
 use Rattle.netlist.proofs.Refusals.{pass, opening-pass, counts-inputs, counts-gates, counts-pass, body-within}
 use Rattle.netlist.proofs.Accepted.{formed}
 

@@ -9,12 +9,12 @@ use mathlib.Core.List.{List}
 use borrow.Author.Tests.{lt-ltb, le-ltb, le-leb, lt-leb, eq-eqb, ne-eqb}
 use lib.Dec.{leb, ltb}
 use lib.ListN.{length}
+use Rattle.words.specs.Words.{wordAt, marked, outside}
+use Rattle.words.proofs.Laws.{within}
 use Rattle.netlist.specs.declared.Checked.{Checked}
-use Rattle.netlist.specs.declared.Checked.the-variants.{Refused}
-use Rattle.netlist.specs.Words.{wordAt, marked, outside}
-use Rattle.netlist.specs.Netlist.{inputsOf, gatesOf, outputsOf, kindAt, countAt, pastRecord, placeOf, entriesAt, outputsEnd}
-use Rattle.netlist.specs.Netlist.{refuse, wordsBelow, noKind, leastPins, mostPins, recordAt, recordsFrom, opening, counts, outputs, body, bodyWithin}
-use Rattle.netlist.proofs.Laws.{within}
+use Rattle.netlist.specs.declared.Checked.the-variants.{Accepted, Refused}
+use Rattle.netlist.specs.Netlist.{inputsOf, gatesOf, outputsOf, kindAt, countAt, pastRecord, placeOf, pinTotal, entriesAt, outputsEnd}
+use Rattle.netlist.specs.Netlist.{refuse, wordsBelow, noKind, leastPins, mostPins, recordAt, recordsFrom, opening, counts, outputs, accepted, body, bodyWithin}
 
 pub stop : (b : Bool) (number place : ℕ) (next : Checked) → b ≡ true → refuse b number place next ≡ Refused number place
 unfolding refuse
@@ -36,11 +36,13 @@ module _ (n : ℕ) (s : List ℕ) (at bound number : ℕ) (next : Checked) (k : 
       let d : at + 2 * k + 2 ≡ at + 2 * (k + 1) = omega arith in
       rw (e, ← d)
 
-  pub words-stop : k < n → bound ≤ wordAt s (at + 2 * k) → left ≡ Refused number (at + 2 * k)
-  words-stop h b = words-split h ∙ stop _ _ _ _ (le-leb bound _ b)
+  -- by the word that the code has read
+  module _ {word : ℕ} (h : k < n) (e : word ≡ wordAt s (at + 2 * k)) where
+    pub words-stop : bound ≤ word → left ≡ Refused number (at + 2 * k)
+    words-stop b = words-split h ∙ stop _ _ _ _ (le-leb bound _ (rw e at b))
 
-  pub words-more : k < n → wordAt s (at + 2 * k) < bound → left ≡ wordsBelow (n - (k + 1)) s (at + 2 * (k + 1)) bound number next
-  words-more h b = words-split h ∙ pass _ _ _ _ (lt-leb bound _ b)
+    pub words-more : word < bound → left ≡ wordsBelow (n - (k + 1)) s (at + 2 * (k + 1)) bound number next
+    words-more b = words-split h ∙ pass _ _ _ _ (lt-leb bound _ (rw e at b))
 
   pub words-end : n ≤ k → left ≡ next
   unfolding wordsBelow
@@ -56,6 +58,12 @@ module _ (s : List ℕ) (next : Checked) (count at : ℕ) (o : count ≡ outputs
       → outputs s next ≡ wordsBelow (count - 0) s (at + 0) (inputs + gates) 9 (refuse (ltb (at + 2 * count) (length s)) 10 (at + 2 * count) next)
   unfolding outputs
   outputs-start inputs gates i g = rw (a, o, i, g, sub-zero, add-zero) (λ h. pass _ _ _ _ (le-ltb (length s) (outputsEnd s) h))
+
+-- the counts that the code has read and counted
+pub accepted-read : (s : List ℕ) {i g o p e : ℕ} → i ≡ inputsOf s → g ≡ gatesOf s → o ≡ outputsOf s → p ≡ pinTotal s → e ≡ entriesAt s
+    → Accepted i g o p e ≡ accepted s
+unfolding accepted
+accepted-read s i g o p e = rw (i, g, o, p, e)
 
 -- the records from gate `gate` on begin with its own
 pub records-split : (s : List ℕ) (next : Checked) (inputs gates gate at : ℕ) → inputs ≡ inputsOf s → at ≡ placeOf s gate → gate < gates

@@ -1,4 +1,3 @@
-pub mod Words
 pub mod Netlist
 pub mod Formed
 pub mod Proper

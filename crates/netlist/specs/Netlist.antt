@@ -7,7 +7,7 @@ use lib.Dec.{eqb, leb, ltb}
 use lib.ListN.{length}
 use Rattle.kung.specs.Rule.{Kind, kindOf}
 use Rattle.circuit.specs.Circuit.{Card}
-use Rattle.netlist.specs.Words.{byteAt, wordAt, wordsAt, marked, outside}
+use Rattle.words.specs.Words.{byteAt, wordAt, wordsAt, marked, outside}
 use Rattle.netlist.specs.declared.Checked.{Checked}
 use Rattle.netlist.specs.declared.Checked.the-variants.{Accepted, Refused}
 

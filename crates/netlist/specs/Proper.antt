@@ -6,7 +6,7 @@ use mathlib.Core.Bool.{Bool, true, cond, not}
 use mathlib.Core.List.{List, [], _∷_, _++_}
 use lib.Dec.{eqb, leb, ltb}
 use lib.ListN.{length}
-use Rattle.netlist.specs.Words.{wordAt, marked, outside}
+use Rattle.words.specs.Words.{wordAt, marked, outside}
 use Rattle.netlist.specs.Netlist.{inputsOf, gatesOf, outputsOf, kindAt, countAt, pinAt, pastRecord, placeOf, entriesAt, outputAt, outputsEnd}
 use Rattle.netlist.specs.Netlist.{noKind, leastPins, mostPins}
 

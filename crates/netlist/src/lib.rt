@@ -1,13 +1,17 @@
-// Card netlists: the check with its refusals, the tie, the index of the records' places, and readers.
+// Card netlists: the check with its refusals, the index of the records' places, and readers.
 ghost use mathlib.Core.Path.{_≡_};
 ghost use mathlib.Core.List.{_++_};
 ghost use mathlib.Core.Bool.{cond};
 ghost use Prim.Native.Nat.{_+_, _*_, _≤_};
 ghost use lib.ListN.{length, drop};
-ghost use Rattle.netlist.specs.Words.{byteAt, wordAt, longAt, marked, outside, sumAt, weightAt, tieFrom, tieOf};
-ghost use Rattle.netlist.specs.Netlist.{kindAt, countAt, pinAt, placeOf, placesOf, pinTotal, entriesAt};
+ghost use Rattle.words.specs.Words.{wordAt};
+ghost use Rattle.netlist.specs.Netlist.{kindAt, countAt, placeOf, placesOf, pinTotal, entriesAt};
 ghost use Rattle.netlist.specs.Netlist.{gatesOf, leading, unfit, plainCount, Reached};
 ghost use Rattle.netlist.specs.Netlist.{noKind, leastPins, mostPins, counts, outputs, accepted, body, bodyWithin, checked};
+use words::byte_at;
+use words::is_outside;
+use words::word_at;
+use words::word_in;
 
 // The answer of a check: the counts, the pins together and the place of the output entries, or the number and place of a refusal.
 pub enum Checked {
@@ -19,120 +23,6 @@ pub enum Checked {
         entries: usize,
     },
     Refused(u8, usize),
-}
-
-// The byte at a place, and 0 past the end.
-pub fn byte_at(s: &[u8], at: usize) -> u8
-    ensures { λ r. ⌜ r ≡ byteAt (now (s .entry)) at ⌝ }
-{
-    if at < s.len() { s[at] } else { 0 }
-}
-
-// The two bytes at a place, low byte first; bytes past the end are 0.
-pub fn word_at(s: &[u8], at: usize) -> u16
-    ensures { λ r. ⌜ r ≡ wordAt (now (s .entry)) at ⌝ }
-{
-    if at < s.len() {
-        byte_at(s, at) as u16 + 256 * byte_at(s, at + 1) as u16
-    } else {
-        0
-    }
-}
-
-// The four bytes at a place, low byte first; bytes past the end are 0.
-pub fn long_at(s: &[u8], at: usize) -> u32
-    ensures { λ r. ⌜ r ≡ longAt (now (s .entry)) at ⌝ }
-{
-    if at < s.len() {
-        word_at(s, at) as u32 + 65536 * word_at(s, at + 2) as u32
-    } else {
-        0
-    }
-}
-
-// The sum of the 64 bytes from a place on: what they add to the first sum of the tie.
-fn block_sum(s: &[u8], at: usize) -> u32
-    requires { ⌜ at + 64 ≤ length (now s) ⌝ }
-    ensures { λ r. ⌜ r ≡ sumAt 64 (now (s .entry)) at ⌝ }
-{
-    let mut sum: u32 = 0;
-    for k in 0..64 {
-        sum += s[at + k] as u32;
-    }
-    sum
-}
-
-// Their sum with the weights 64 to 1: what they add to the second, beside 64 times the first.
-fn block_weight(s: &[u8], at: usize) -> u32
-    requires { ⌜ at + 64 ≤ length (now s) ⌝ }
-    ensures { λ r. ⌜ r ≡ weightAt 64 (now (s .entry)) at ⌝ }
-{
-    let mut sum: u32 = 0;
-    for k in 0..64 {
-        sum += (64 - k) as u32 * s[at + k] as u32;
-    }
-    sum
-}
-
-// The tie from a place on, with the two sums of the bytes before.
-fn tie_from(s: &[u8], start: usize, first: u32, second: u32) -> u32
-    requires { ⌜ start ≤ length (now s) ⌝ }
-    ensures { λ r. ⌜ r ≡ tieFrom first second (drop start (now (s .entry))) ⌝ }
-{
-    let mut a = first;
-    let mut b = second;
-    let mut i = start;
-    while i < s.len() {
-        a = std::num::wrapping_add_u32(a, s[i] as u32);
-        b = std::num::wrapping_add_u32(b, a);
-        i += 1;
-    }
-    b
-}
-
-// The tie of a netlist, which binds a list of changes to it: by blocks of 64 bytes, whose own sums do not wait for each other.
-pub fn tie(s: &[u8]) -> u32
-    ensures { λ r. ⌜ r ≡ tieOf (now (s .entry)) ⌝ }
-{
-    let mut a: u32 = 0;
-    let mut b: u32 = 0;
-    let mut i: usize = 0;
-    while i + 64 <= s.len() {
-        let carried = (64 * (a as u64) % 4294967296) as u32;
-        b = std::num::wrapping_add_u32(b, carried);
-        b = std::num::wrapping_add_u32(b, block_weight(s, i));
-        a = std::num::wrapping_add_u32(a, block_sum(s, i));
-        i += 64;
-    }
-    tie_from(s, i, a, b)
-}
-
-// A word inside the bytes.
-pub fn word_in(s: &[u8], at: usize) -> u16
-    requires { ⌜ at + 2 ≤ length (now s) ⌝ }
-    ensures { λ r. ⌜ r ≡ wordAt (now (s .entry)) at ⌝ }
-{
-    s[at] as u16 + 256 * (s[at + 1] as u16)
-}
-
-// Whether the bytes begin with three letters.
-pub fn is_marked(s: &[u8], a: u8, b: u8, c: u8) -> bool
-    ensures { λ r. ⌜ r ≡ marked (now (s .entry)) a b c ⌝ }
-{
-    if byte_at(s, 0) != a {
-        return false;
-    }
-    if byte_at(s, 1) != b {
-        return false;
-    }
-    byte_at(s, 2) == c
-}
-
-// Whether a number is out of its range.
-pub fn is_outside(least: usize, most: usize, n: usize) -> bool
-    ensures { λ r. ⌜ r ≡ outside least most n ⌝ }
-{
-    if n < least { true } else { most < n }
 }
 
 // How many pins a kind takes; none where the byte is no kind.
@@ -324,7 +214,7 @@ pub fn check(s: &[u8]) -> Checked
     if s.len() < 11 {
         return Checked::Refused(1, s.len());
     }
-    if !is_marked(s, b'L', b'C', b'N') {
+    if !words::is_marked(s, b'L', b'C', b'N') {
         return Checked::Refused(2, 0);
     }
     if word_at(s, 3) != 1 {
@@ -347,7 +237,7 @@ pub fn fill_places(s: &[u8], places: &mut [u16], gates: usize)
     }
 }
 
-// Of the record at a place: the kind byte, the pin count and pin `k`.
+// Of the record at a place: the kind byte and the pin count.
 pub fn kind_at(s: &[u8], place: u16) -> u8
     ensures { λ r. ⌜ r ≡ kindAt (now (s .entry)) place ⌝ }
 {
@@ -358,12 +248,6 @@ pub fn count_at(s: &[u8], place: u16) -> u8
     ensures { λ r. ⌜ r ≡ countAt (now (s .entry)) place ⌝ }
 {
     byte_at(s, place as usize + 1)
-}
-
-pub fn pin_at(s: &[u8], place: u16, k: u8) -> u16
-    ensures { λ r. ⌜ r ≡ pinAt (now (s .entry)) place k ⌝ }
-{
-    word_at(s, place as usize + 2 + 2 * (k as usize))
 }
 
 // The output entry `output` places after the entries' start; 0 past the end.

@@ -15,7 +15,7 @@ use Rattle.kung.proofs.Finite.{ofCode-code, everyClass, class-at}
 use Rattle.kung.proofs.Listed.{agree, getD-tab}
 use Rattle.circuit.specs.Circuit.{Each, Source, given, gate, sources, values, value, outOf, WellFormed}
 use Rattle.circuit.proofs.Laws.{map-ext, each-map, values-length, sources-gate, sources-input, sources-ext}
-use Rattle.netlist.specs.Words.{wordAt, wordsAt}
+use Rattle.words.specs.Words.{wordAt, wordsAt}
 use Rattle.netlist.specs.Formed.{Formed}
 use Rattle.netlist.specs.Netlist.{inputsOf, gatesOf, placeOf, gateKind, gatePins, cardOf}
 use Rattle.changes.specs.Changes.{widthOf, inputClassAt, inputCodes, sourcesOf}

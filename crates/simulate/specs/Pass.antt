@@ -6,7 +6,7 @@ use lib.ListN.{length, getD, drop}
 use Rattle.kung.specs.Class.{Class, c0, code, ofCode}
 use Rattle.kung.specs.Rule.{kindOf, gateClass}
 use Rattle.circuit.specs.Circuit.{Each, Source, sources, values}
-use Rattle.netlist.specs.Words.{wordsAt}
+use Rattle.words.specs.Words.{wordsAt}
 use Rattle.netlist.specs.Netlist.{inputsOf, gatesOf, kindAt, countAt, placeOf, pastRecord, cardOf}
 
 -- the sources of a netlist's signals where the first bytes of a buffer have the inputs' classes

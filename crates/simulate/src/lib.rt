@@ -7,7 +7,7 @@ ghost use Rattle.kung.specs.Class.{code, ofCode};
 ghost use Rattle.kung.specs.Sets.{collect};
 ghost use Rattle.kung.specs.Tables.{gateTable};
 ghost use Rattle.circuit.specs.Circuit.{Each};
-ghost use Rattle.netlist.specs.Words.{wordsAt};
+ghost use Rattle.words.specs.Words.{wordsAt};
 ghost use Rattle.simulate.specs.Pass.{gateCode, Readable, codesOf, Passable};
 ghost use Rattle.simulate.specs.Full.{Ready, codes, fullAnswer, fullBuffer};
 use changes::Listed;
@@ -21,7 +21,7 @@ fn pin_set(netlist: &[u8], at: usize, count: usize, classes: &[u8]) -> u8
     let mut left = count;
     while 0 < left {
         left -= 1;
-        let pin = netlist::word_in(netlist, at + 2 * left) as usize;
+        let pin = words::word_in(netlist, at + 2 * left) as usize;
         set = kung::with_class(set, classes[pin]);
     }
     set

@@ -39,7 +39,7 @@ pub fn record_at(netlist: &[u8], number: usize, place: usize, count: usize) -> F
     if netlist.len() <= place {
         return Found::Nothing;
     }
-    let pins = netlist::byte_at(netlist, place + 1) as usize;
+    let pins = words::byte_at(netlist, place + 1) as usize;
     if netlist::is_unfit(netlist[place], pins) {
         return Found::Nothing;
     }

@@ -5,7 +5,7 @@ use mathlib.Core.Path.{_≡_, _∙_, sym}
 use mathlib.Core.Bool.{true}
 use borrow.Author.Needs.{needs}
 use borrow.Author.Tests.{not-true, not-false}
-use Rattle.netlist.specs.Words.{marked}
+use Rattle.words.specs.Words.{marked}
 use Rattle.changes.specs.Changes.{widthOf, sizeOf}
 use Rattle.changes.proofs.Laws.{change-high}
 use Rattle.changes.proofs.Refusals.{Opened, list-short, list-mark, list-version, list-tie, list-many, list-length, list-pass}

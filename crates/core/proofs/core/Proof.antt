@@ -2,7 +2,7 @@
 use Prim.Native.Nat.{_+_, _*_}
 use mathlib.Core.Path.{_≡_, _∙_, sym, ap, subst}
 use Rattle.kung.specs.Sets.{cleanSet}
-use Rattle.netlist.specs.Words.{wordAt}
+use Rattle.words.specs.Words.{wordAt}
 use Rattle.netlist.specs.Netlist.{outputAt}
 use Rattle.netlist.proofs.Accepted.{formed}
 use Rattle.changes.specs.declared.Listed.the-variants.{Accepted}

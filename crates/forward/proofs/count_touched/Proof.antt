@@ -6,7 +6,7 @@ use mathlib.Core.Logic.{⊎-elim}
 use Rattle.kung.specs.Sets.{bit}
 use Rattle.circuit.proofs.Laws.{each-map}
 use Rattle.search.specs.Pins.{sumBelow}
-use Rattle.netlist.specs.Words.{wordsAt}
+use Rattle.words.specs.Words.{wordsAt}
 use Rattle.netlist.specs.Netlist.{countAt, placeOf}
 use Rattle.netlist.proofs.Laws.{place-next}
 use Rattle.simulate.specs.Pass.{Readable}

@@ -3,7 +3,7 @@ use Prim.Native.Nat.{_+_, _-_, _*_, _≤_, _<_}
 use native.Mathlib.Omega.{arith}
 use mathlib.Core.Path.{_≡_, sym, _∙_, ap₂}
 use lib.ListN.{length}
-use Rattle.netlist.specs.Words.{wordsAt}
+use Rattle.words.specs.Words.{wordsAt}
 use Rattle.simulate.proofs.Laws.{word-each}
 use Rattle.forward.specs.Known.{anyConstant}
 use Rattle.forward.proofs.Bytes.{any-found, any-more, any-none}

@@ -4,7 +4,7 @@ use native.Mathlib.Omega.{arith}
 use mathlib.Core.Path.{_≡_, _∙_, sym, ap, subst}
 use lib.ListN.{length, getD}
 use Rattle.kung.specs.Class.{ofCode}
-use Rattle.netlist.specs.Words.{wordAt}
+use Rattle.words.specs.Words.{wordAt}
 use Rattle.netlist.specs.Netlist.{outputAt}
 use Rattle.report.specs.Text.{verdictLine}
 use Rattle.report.specs.Appended.{Appended}

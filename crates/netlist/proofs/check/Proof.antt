@@ -3,7 +3,7 @@ use mathlib.Core.Path.{_≡_, _∙_, sym}
 use mathlib.Core.Bool.{true}
 use borrow.Author.Needs.{needs}
 use borrow.Author.Tests.{not-true, not-false}
-use Rattle.netlist.specs.Words.{marked}
+use Rattle.words.specs.Words.{marked}
 use Rattle.netlist.specs.Netlist.{checked, checkedWithin}
 use Rattle.netlist.proofs.Refusals.{opening-short, opening-mark, opening-version, opening-pass}
 use Rattle.netlist.proofs.check.Statement.{statement}

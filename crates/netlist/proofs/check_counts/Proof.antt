@@ -2,17 +2,18 @@
 use mathlib.Core.Path.{_≡_, _∙_, sym}
 use mathlib.Core.Bool.{false}
 use borrow.Author.Needs.{needs}
-use Rattle.netlist.specs.Words.{outside}
+use Rattle.words.specs.Words.{outside}
+use Rattle.words.proofs.Laws.{outside-read}
 use Rattle.netlist.specs.Netlist.{inputsOf, gatesOf}
 use Rattle.netlist.proofs.Refusals.{counts-inputs, counts-gates, counts-outputs, counts-pass, body-within}
 use Rattle.netlist.proofs.check_counts.Statement.{statement}
 use Rattle.netlist.proofs.check_counts.Tie as tie
 
 inputs-in : (c : tie.Else1) → outside 1 256 (inputsOf (c .before .before .before .before .args .s .now)) ≡ false
-inputs-in c = cc
+inputs-in c = outside-read 1 256 (c .before .before .word-at .ensures) (c .before .is-outside .ensures) (c .if1 .left)
 
 gates-in : (c : tie.Else2) → outside 0 2048 (gatesOf (c .before .before .before .before .before .before .before .args .s .now)) ≡ false
-gates-in c = cc
+gates-in c = outside-read 0 2048 (c .before .before .word-at2 .ensures) (c .before .is-outside2 .ensures) (c .if2 .left)
 
 word-at-requires : tie.Need-word-at-requires
 word-at-requires c κs = search needs
@@ -24,7 +25,7 @@ is-outside-requires : tie.Need-is-outside-requires
 is-outside-requires c κs = search needs
 
 returns : tie.Need-returns
-returns c = sym (counts-inputs _ _ (cc))
+returns c = sym (counts-inputs _ _ (outside-read 1 256 (c .before .before .word-at .ensures) (c .before .is-outside .ensures) (c .if1 .taken)))
 
 word-at-requires-2 : tie.Need-word-at-requires-2
 word-at-requires-2 c κs = search needs
@@ -36,7 +37,7 @@ is-outside-requires-2 : tie.Need-is-outside-requires-2
 is-outside-requires-2 c κs = search needs
 
 returns-2 : tie.Need-returns-2
-returns-2 c = sym (counts-gates _ _ (inputs-in (c .before .before .before)) (cc))
+returns-2 c = sym (counts-gates _ _ (inputs-in (c .before .before .before)) (outside-read 0 2048 (c .before .before .word-at2 .ensures) (c .before .is-outside2 .ensures) (c .if2 .taken)))
 
 word-at-requires-3 : tie.Need-word-at-requires-3
 word-at-requires-3 c κs = search needs
@@ -48,7 +49,7 @@ is-outside-requires-3 : tie.Need-is-outside-requires-3
 is-outside-requires-3 c κs = search needs
 
 returns-3 : tie.Need-returns-3
-returns-3 c = sym (counts-outputs _ _ (inputs-in (c .before .before .before .before .before .before)) (gates-in (c .before .before .before)) (cc))
+returns-3 c = sym (counts-outputs _ _ (inputs-in (c .before .before .before .before .before .before)) (gates-in (c .before .before .before)) (outside-read 1 64 (c .before .before .word-at3 .ensures) (c .before .is-outside3 .ensures) (c .if3 .taken)))
 
 check-records-requires : tie.Need-check-records-requires
 check-records-requires c κs = search needs
@@ -57,7 +58,8 @@ returns-4 : tie.Need-returns-4
 returns-4 c =
     let i = inputs-in (c .before .before .before .before .before .before .before) in
     let g = gates-in (c .before .before .before .before) in
-    c .check-records .ensures ∙ sym (counts-pass _ _ i g (cc) ∙ body-within _ i g)
+    let o = outside-read 1 64 (c .before .before .before .word-at3 .ensures) (c .before .before .is-outside3 .ensures) (c .before .if3 .left) in
+    c .check-records .ensures ∙ sym (counts-pass _ _ i g o ∙ body-within _ i g)
 
 pub check-counts-spec : {M : Type 1} → statement M
 check-counts-spec =

@@ -5,7 +5,7 @@ use borrow.Author.Tests.{lt-ltb, le-ltb}
 use lib.Dec.{ltb}
 use lib.ListN.{length}
 use Rattle.netlist.specs.Netlist.{outputs, accepted, wordsBelow, refuse}
-use Rattle.netlist.proofs.Refusals.{stop, pass, outputs-cut, outputs-start, words-stop, words-more, words-end}
+use Rattle.netlist.proofs.Refusals.{stop, pass, accepted-read, outputs-cut, outputs-start, words-stop, words-more, words-end}
 use borrow.Author.Needs.{needs}
 use Rattle.netlist.proofs.check_outputs.Statement.{statement}
 use Rattle.netlist.proofs.check_outputs.Tie as tie
@@ -70,7 +70,7 @@ cast-if2 : tie.Need-cast-if2 Inv-loop μ-loop
 cast-if2 c = search needs
 
 returns-2 : tie.Need-returns-2 Inv-loop μ-loop
-returns-2 c = sym (c .before .before .before .loop .inv .1 ∙ words-stop _ _ _ _ _ _ _ (c .before .before .loop-test .taken) (search needs))
+returns-2 c = sym (c .before .before .before .loop .inv .1 ∙ words-stop _ _ _ _ _ _ _ (c .before .before .loop-test .taken) (c .before .word-in .ensures) (c .if2 .taken))
 
 add-k : tie.Need-add-k Inv-loop μ-loop
 add-k c = search needs
@@ -79,16 +79,17 @@ loop-less : tie.Need-loop-less Inv-loop μ-loop
 loop-less c = search needs
 
 loop-again : tie.Need-loop-again Inv-loop μ-loop
-loop-again c = (search needs, c .before .before .before .loop .inv .1 ∙ words-more _ _ _ _ _ _ _ (c .before .before .loop-test .taken) (search needs))
+loop-again c = (search needs, c .before .before .before .loop .inv .1 ∙ words-more _ _ _ _ _ _ _ (c .before .before .loop-test .taken) (c .before .word-in .ensures) (c .if2 .left))
 
 returns-3 : tie.Need-returns-3 Inv-loop μ-loop
 returns-3 c = sym (c .before .before .loop .inv .1 ∙ words-end _ _ _ _ _ _ _ (c .before .loop-test .left) ∙ stop _ _ _ _ (lt-ltb _ _ (c .if3 .taken)))
 
 returns-4 : tie.Need-returns-4 Inv-loop μ-loop
-unfolding accepted
 returns-4 c =
     let e = c .before .before .loop .inv .1 ∙ words-end _ _ _ _ _ _ _ (c .before .loop-test .left) ∙ pass _ _ _ _ (le-ltb _ _ (c .if3 .left)) in
-    cc e
+    let read = c .before .before .before .before in
+    let start = read .before .before .before .before in
+    accepted-read _ (read .before .before .word-at .ensures) (read .before .word-at2 .ensures) (read .word-at3 .ensures) (start .pre .0) (start .pre .1) ∙ sym e
 
 pub check-outputs-spec : {M : Type 1} → statement M
 check-outputs-spec =

@@ -1,17 +1,16 @@
 -- `check_records`: at each record, and in it at each pin, what is left of the check is the whole of what follows the counts. Assumes nothing.
 use Prim.Native.Nat.{ℕ, _+_, _-_, _*_, _≤_, _<_}
 use native.Mathlib.Omega.{arith}
-use mathlib.Core.Path.{_≡_, _∙_, sym}
+use mathlib.Core.Path.{_≡_, _∙_, sym, ap}
 use mathlib.Core.Bool.{false}
 use mathlib.Core.List.{List}
 use lib.Arith.{lt-of-le-ne}
-use lib.ListN.{length}
 use borrow.Author.Needs.{needs}
-use Rattle.netlist.specs.Netlist.{kindAt, countAt, noKind, leastPins, mostPins}
+use Rattle.words.specs.Words.{outside}
+use Rattle.netlist.specs.Netlist.{kindAt, countAt, placeOf, pinsBelow, noKind, leastPins, mostPins}
 use Rattle.netlist.specs.Netlist.{recordAt, recordsFrom, wordsBelow, outputs, accepted, body, Reached}
-use Rattle.netlist.specs.Words.{outside}
 use Rattle.netlist.specs.declared.Checked.{Checked}
-use Rattle.netlist.proofs.Laws.{most-none, most-some, place-next, pins-next}
+use Rattle.netlist.proofs.Laws.{most-none, most-some, limits-read, place-next, pins-next}
 use Rattle.netlist.proofs.Refusals.{words-stop, words-more, words-end, records-split, records-end}
 use Rattle.netlist.proofs.Refusals.{record-bare, record-kind, record-count, record-cut, record-pins}
 use Rattle.netlist.proofs.check_records.Statement.{statement}
@@ -66,9 +65,8 @@ judged : (c : tie.After-is-outside Inv-pins μ-pins Inv-records μ-records)
     outside (leastPins kind) (mostPins kind) (countAt (bytes a) (a .records .at)) ≡ c .is-outside .result
 judged c =
     let limits = c .before .before .before .pin-limits .ensures in
-    let l = rw (known (c .before)) at (limits .0) in
-    let m = rw (known (c .before)) at (limits .1) in
-    cc (c .is-outside .ensures)
+    let a = two (c .before .before) .before .before in
+    limits-read (kindAt (bytes a) (a .records .at)) (countAt (bytes a) (a .records .at)) (known (c .before)) (limits .0) (limits .1) (c .is-outside .ensures)
 
 count-byte : (c : tie.After-shared-slice-known2 Inv-pins μ-pins Inv-records μ-records) → let a = c .before .before .before in
     countAt (bytes a) (a .records .at) < 256
@@ -93,7 +91,11 @@ records-holds : tie.Need-records-holds Inv-pins μ-pins Inv-records μ-records
 records-holds c = rw (c .before .word-at2 .ensures) (c .pass-records .ensures)
 
 check-outputs-requires : tie.Need-check-outputs-requires Inv-pins μ-pins Inv-records μ-records
-check-outputs-requires c κs = (cc, cc, c .before .records .inv .place-high)
+check-outputs-requires c κs =
+    let a = c .before in
+    let i = a .records .inv in
+    let last = c .if1 .taken ∙ a .before .before .word-at2 .ensures in
+    (i .pins-are ∙ ap (pinsBelow (bytes a)) last, i .place-is ∙ ap (placeOf (bytes a)) last, i .place-high)
 
 add-if2 : tie.Need-add-if2 Inv-pins μ-pins Inv-records μ-records
 add-if2 c = search needs
@@ -158,7 +160,7 @@ pins-less : tie.Need-pins-less Inv-pins μ-pins Inv-records μ-records
 pins-less c = search needs
 
 pins-again : tie.Need-pins-again Inv-pins μ-pins Inv-records μ-records
-pins-again c = (search needs, c .before .before .before .pins .inv .1 ∙ words-more _ _ _ _ _ _ _ (c .before .before .pins-test .taken) (search needs))
+pins-again c = (search needs, c .before .before .before .pins .inv .1 ∙ words-more _ _ _ _ _ _ _ (c .before .before .pins-test .taken) (c .before .word-in .ensures) (c .if6 .left))
 
 add-pins : tie.Need-add-pins Inv-pins μ-pins Inv-records μ-records
 add-pins c = search needs
@@ -203,7 +205,7 @@ returns-5 c =
     sym (own (e .before) ∙ record-cut _ _ _ _ (e .if2 .left) (known (c .before .before .before)) (judged (c .before .before) ∙ c .before .if4 .left) (c .if5 .taken))
 
 returns-6 : tie.Need-returns-6 Inv-pins μ-pins Inv-records μ-records
-returns-6 c = sym (c .before .before .before .pins .inv .1 ∙ words-stop _ _ _ _ _ _ _ (c .before .before .pins-test .taken) (search needs))
+returns-6 c = sym (c .before .before .before .pins .inv .1 ∙ words-stop _ _ _ _ _ _ _ (c .before .before .pins-test .taken) (c .before .word-in .ensures) (c .if6 .taken))
 
 pub check-records-spec : {M : Type 1} → statement M
 check-records-spec =

@@ -1,6 +1,6 @@
 -- `entry_at`: past the end a word is 0. Assumes nothing.
 use borrow.Author.Needs.{needs}
-use Rattle.netlist.proofs.Laws.{word-past}
+use Rattle.words.proofs.Laws.{word-past}
 use Rattle.netlist.proofs.entry_at.Statement.{statement}
 use Rattle.netlist.proofs.entry_at.Tie as tie
 

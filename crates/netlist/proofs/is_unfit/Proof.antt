@@ -1,6 +1,5 @@
 -- `is_unfit`: the kind, the count, and both together. Assumes nothing.
-use mathlib.Core.Path.{_≡_, _∙_, sym}
-use mathlib.Core.Bool.{false}
+use mathlib.Core.Path.{_∙_, sym}
 use borrow.Author.Needs.{needs}
 use Rattle.netlist.specs.Netlist.{noKind}
 use Rattle.netlist.proofs.Plain.{unfit-kind, unfit-count, unfit-many}

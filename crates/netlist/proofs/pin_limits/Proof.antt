@@ -1,8 +1,9 @@
 -- `pin_limits`: the four ways through the match on the kind byte. Assumes nothing.
 use mathlib.Core.Path.{_∙_}
 use borrow.Author.Tests.{lt-ltb}
+use Rattle.words.proofs.Laws.{outside-below, outside-above}
 use Rattle.netlist.specs.Netlist.{noKind}
-use Rattle.netlist.proofs.Laws.{outside-below, outside-above, limits-one, limits-many, limits-none}
+use Rattle.netlist.proofs.Laws.{limits-one, limits-many, limits-none}
 use Rattle.netlist.proofs.pin_limits.Statement.{statement}
 use Rattle.netlist.proofs.pin_limits.Tie as tie
 

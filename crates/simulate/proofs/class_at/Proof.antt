@@ -8,7 +8,7 @@ use Rattle.kung.specs.Class.{code, ofCode}
 use Rattle.kung.specs.Rule.{kindOf, gateClass}
 use Rattle.kung.specs.Sets.{members}
 use Rattle.kung.proofs.SetLaws.{gate-collect}
-use Rattle.netlist.specs.Words.{wordsAt}
+use Rattle.words.specs.Words.{wordsAt}
 use Rattle.netlist.specs.Netlist.{kindAt, countAt}
 use Rattle.simulate.specs.Pass.{gateCode}
 use borrow.Author.Needs.{needs}

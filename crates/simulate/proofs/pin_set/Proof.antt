@@ -6,7 +6,7 @@ use mathlib.Core.List.{map}
 use lib.ListN.{getD, length}
 use Rattle.kung.specs.Class.{Class, ofCode}
 use Rattle.kung.specs.Sets.{insert, collect}
-use Rattle.netlist.specs.Words.{wordsAt}
+use Rattle.words.specs.Words.{wordsAt}
 use Rattle.simulate.proofs.Laws.{word-each, collect-back}
 use Prim.Native.Nat.{_+_, _-_, _*_, _≤_}
 use mathlib.Core.Path.{_≡_}

@@ -4,10 +4,10 @@ use native.Mathlib.Omega.{arith}
 use native.Mathlib.Nat.{add-zero, zero-add, mul-le-mul}
 use mathlib.Core.Path.{_≡_}
 use borrow.Author.Needs.{needs}
-use Rattle.netlist.specs.Words.{byteAt, weightAt}
-use Rattle.netlist.proofs.Laws.{weight-more, weight-end}
-use Rattle.netlist.proofs.block_weight.Statement.{statement}
-use Rattle.netlist.proofs.block_weight.Tie as tie
+use Rattle.words.specs.Words.{byteAt, weightAt}
+use Rattle.words.proofs.Laws.{weight-more, weight-end}
+use Rattle.words.proofs.block_weight.Statement.{statement}
+use Rattle.words.proofs.block_weight.Tie as tie
 
 abbrev Inv-loop : tie.InvT-loop
 Inv-loop s at sum₀ k₀ sum k = (k ≤ 64) × (sum ≤ 16320 * k) × (weightAt 64 s at ≡ sum + weightAt (64 - k) s (at + k))

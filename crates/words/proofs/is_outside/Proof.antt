@@ -1,8 +1,8 @@
 -- `is_outside`: below, then above. Assumes nothing.
 use mathlib.Core.Path.{sym}
-use Rattle.netlist.proofs.Laws.{outside-below, outside-above}
-use Rattle.netlist.proofs.is_outside.Statement.{statement}
-use Rattle.netlist.proofs.is_outside.Tie as tie
+use Rattle.words.proofs.Laws.{outside-below, outside-above}
+use Rattle.words.proofs.is_outside.Statement.{statement}
+use Rattle.words.proofs.is_outside.Tie as tie
 
 returns : tie.Need-returns
 returns c = sym (outside-below _ _ _ (c .if1 .taken))

@@ -1,9 +1,9 @@
 -- `long_at`: two words, or 0 past the end. Assumes nothing.
 use borrow.Author.Needs.{needs}
-use Rattle.netlist.specs.Words.{longAt}
-use Rattle.netlist.proofs.Laws.{long-past}
-use Rattle.netlist.proofs.long_at.Statement.{statement}
-use Rattle.netlist.proofs.long_at.Tie as tie
+use Rattle.words.specs.Words.{longAt}
+use Rattle.words.proofs.Laws.{long-past}
+use Rattle.words.proofs.long_at.Statement.{statement}
+use Rattle.words.proofs.long_at.Tie as tie
 
 word-at-requires : tie.Need-word-at-requires
 word-at-requires c κs = search needs

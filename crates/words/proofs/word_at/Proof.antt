@@ -1,9 +1,9 @@
 -- `word_at`: two bytes, or 0 past the end. Assumes nothing.
 use borrow.Author.Needs.{needs}
-use Rattle.netlist.specs.Words.{wordAt}
-use Rattle.netlist.proofs.Laws.{word-past}
-use Rattle.netlist.proofs.word_at.Statement.{statement}
-use Rattle.netlist.proofs.word_at.Tie as tie
+use Rattle.words.specs.Words.{wordAt}
+use Rattle.words.proofs.Laws.{word-past}
+use Rattle.words.proofs.word_at.Statement.{statement}
+use Rattle.words.proofs.word_at.Tie as tie
 
 byte-at-requires : tie.Need-byte-at-requires
 byte-at-requires c κs = search needs

@@ -3,11 +3,11 @@ use Prim.Native.Nat.{_≤_, _-_}
 use native.Mathlib.Omega.{arith}
 use mathlib.Core.Path.{_≡_, _∙_, refl, sym}
 use lib.ListN.{length, drop}
-use Rattle.netlist.specs.Words.{tieFrom}
-use Rattle.netlist.proofs.Laws.{tie-more, tie-end}
+use Rattle.words.specs.Words.{tieFrom}
+use Rattle.words.proofs.Laws.{tie-more, tie-end}
 use borrow.Author.Needs.{needs}
-use Rattle.netlist.proofs.tie_from.Statement.{statement}
-use Rattle.netlist.proofs.tie_from.Tie as tie
+use Rattle.words.proofs.tie_from.Statement.{statement}
+use Rattle.words.proofs.tie_from.Tie as tie
 
 abbrev Inv-loop : tie.InvT-loop
 Inv-loop s start first second a₀ b₀ i₀ a b i = (i ≤ length s) × (tieFrom first second (drop start s) ≡ tieFrom a b (drop i s))
@@ -39,7 +39,8 @@ loop-less c = search needs
 loop-again : tie.Need-loop-again Inv-loop μ-loop
 loop-again c =
     let at = c .before .before .before .before in
-    (search needs, cc (tie-more (at .loop .a) (at .loop .b) (at .before .before .args .s .now) (at .loop .i) (c .before .before .before .loop-test .taken)))
+    let e = at .loop .inv .1 ∙ tie-more (at .loop .a) (at .loop .b) (at .before .before .args .s .now) (at .loop .i) (c .before .before .before .loop-test .taken) in
+    (search needs, rw (c .wrapping-add-u322 .ensures, c .before .wrapping-add-u32 .ensures) e)
 
 returns : tie.Need-returns Inv-loop μ-loop
 returns c = let at = c .before in sym (at .loop .inv .1 ∙ tie-end (at .loop .a) (at .loop .b) (at .before .before .args .s .now) (at .loop .i) (omega arith))

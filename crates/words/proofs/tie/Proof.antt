@@ -1,13 +1,13 @@
 -- `tie`: what is left of the tie is the whole tie. Assumes nothing.
-use Prim.Native.Nat.{_+_, _-_, _*_, _≤_, _<_}
+use Prim.Native.Nat.{_-_, _*_, _≤_, _<_}
 use native.Mathlib.Omega.{arith}
 use mathlib.Core.Path.{_≡_, _∙_, refl, sym}
 use lib.ListN.{length, drop}
-use Rattle.netlist.specs.Words.{tieFrom, tieOf, weightAt}
-use Rattle.netlist.proofs.Laws.{tie-block, carried}
+use Rattle.words.specs.Words.{tieFrom, tieOf, weightAt}
+use Rattle.words.proofs.Laws.{tie-block, carried}
 use borrow.Author.Needs.{needs}
-use Rattle.netlist.proofs.tie.Statement.{statement}
-use Rattle.netlist.proofs.tie.Tie as tie
+use Rattle.words.proofs.tie.Statement.{statement}
+use Rattle.words.proofs.tie.Tie as tie
 
 abbrev Inv-loop : tie.InvT-loop
 Inv-loop s a₀ b₀ i₀ a b i = (i ≤ length s) × (a < 4294967296) × (b < 4294967296) × (tieOf s ≡ tieFrom a b (drop i s))
@@ -57,7 +57,13 @@ loop-again c =
     let l = c .before .before .before .before .before .before in
     let e = l .loop .inv .3 ∙ tie-block 64 (l .loop .a) (l .loop .b) (l .before .before .args .s .now) (l .loop .i) (search needs) (search needs) (search needs) in
     let d = carried (l .loop .b) (64 * l .loop .a) (weightAt 64 (l .before .before .args .s .now) (l .loop .i)) in
-    (search needs, omega (arith, c .wrapping-add-u323 .ensures), omega (arith, c .before .before .wrapping-add-u322 .ensures), cc (e, d))
+    let second = c .before .before in
+    let weight = second .before .block-weight .ensures in (
+      search needs,
+      omega (arith, c .wrapping-add-u323 .ensures),
+      omega (arith, second .wrapping-add-u322 .ensures),
+      rw (c .wrapping-add-u323 .ensures, c .before .block-sum .ensures, second .wrapping-add-u322 .ensures, weight, second .before .before .wrapping-add-u32 .ensures, d) e,
+    )
 
 tie-from-requires : tie.Need-tie-from-requires Inv-loop μ-loop
 tie-from-requires c κs = search needs

@@ -3,9 +3,9 @@ use Prim.Native.Nat.{_+_}
 use native.Mathlib.Omega.{arith}
 use mathlib.Core.Path.{refl}
 use borrow.Author.Needs.{needs}
-use Rattle.netlist.specs.Words.{wordAt}
-use Rattle.netlist.proofs.word_in.Statement.{statement}
-use Rattle.netlist.proofs.word_in.Tie as tie
+use Rattle.words.specs.Words.{wordAt}
+use Rattle.words.proofs.word_in.Statement.{statement}
+use Rattle.words.proofs.word_in.Tie as tie
 
 shared-slice-read-result : tie.Need-shared-slice-read-result
 shared-slice-read-result c = search needs
