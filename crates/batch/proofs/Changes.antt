@@ -25,7 +25,7 @@ use Rattle.changes.proofs.Accepted.{listed}
 use Rattle.simulate.proofs.Theorems.{codes-length}
 use Rattle.search.specs.Search.{Answer, search}
 use Rattle.search.specs.Pins.{sumBelow}
-use Rattle.core.specs.Source.{sourceFrom, GatesOnly, inputsKnown}
+use Rattle.visit.specs.Source.{sourceFrom, GatesOnly, inputsKnown}
 use Rattle.core.specs.Core.{searchOf}
 use Rattle.core.specs.Outputs.{verdictByte, searchFrom, byteFrom, sumFrom, OutputsReady}
 use Rattle.core.proofs.Cards.{ready, inputs-only}
@@ -34,7 +34,10 @@ use Rattle.core.proofs.Outputs.{search-few}
 use Rattle.core.proofs.Theorems.{pins-within, gates-within}
 use Rattle.forward.specs.Constants.{isKnown, touched}
 use Rattle.forward.specs.Forward.{constantsIn, touchedIn, outputSearch, visitedIn, forwardBytes}
+use Rattle.batch.specs.declared.Analysis.{Analysis}
+use Rattle.batch.specs.declared.Analysis.the-variants.{Full, Forward, Core}
 use Rattle.batch.specs.Batch.{coreBytes, coreSum, fullOf, forwardOf, coreOf}
+use Rattle.batch.specs.Lent.{methodOf, widthFor}
 use Rattle.batch.proofs.Rows.{Regular}
 
 -- numbers of at most b each
@@ -84,6 +87,16 @@ module _ {i g o p e t w : ℕ} (n l : List ℕ) (accepted : listChecked n l ≡ 
   pub core-regular : Regular (coreOf n l) o
   unfolding coreBytes
   core-regular = record { wide = card .outputs-are; each = λ t. tab-length _ 0 (outputsOf n) ∙ sym (card .outputs-are) }
+
+  pub regular : (a : Analysis) → Regular (methodOf a n l) (widthFor a (i + g) o)
+  regular Full = full-regular
+  regular Forward = forward-regular
+  regular Core = core-regular
+
+  pub width-high : (a : Analysis) → widthFor a (i + g) o ≤ 2304
+  width-high Full = omega (arith, card .inputs-high, card .gates-high)
+  width-high Forward = omega (arith, card .outputs-high)
+  width-high Core = omega (arith, card .outputs-high)
 
   -- what all rows together take fits
   pub rows-fit : (w : ℕ) → w ≤ 2304 → t * w ≤ 2304000

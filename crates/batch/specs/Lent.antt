@@ -6,7 +6,9 @@ use lib.ListN.{length, drop, replicate}
 use Rattle.changes.specs.declared.Listed.the-variants.{Accepted}
 use Rattle.changes.specs.Refusals.{listChecked}
 use Rattle.batch.specs.declared.Judged.{Judged}
-use Rattle.batch.specs.Batch.{Method, doneFor, rowed, allAnswer, allBuffer}
+use Rattle.batch.specs.declared.Analysis.{Analysis}
+use Rattle.batch.specs.declared.Analysis.the-variants.{Full, Forward, Core}
+use Rattle.batch.specs.Batch.{Method, fullOf, forwardOf, coreOf, doneFor, rowed, allAnswer, allBuffer}
 
 -- an accepted list, and room for the rows of its changes
 pub record AllOf (m : Method) (netlist list : List ℕ) (inputs gates outputs entries width changes room : ℕ) : Type 0 where
@@ -24,6 +26,17 @@ pub record Room (known cells : List ℕ) (inputs : ℕ) : Type 0 where
 pub record Judges (m : Method) (changes : ℕ) (entry exit : List ℕ) (r : Judged) : Type 0 where
   pub answer : r ≡ doneFor m changes
   pub bytes : exit ≡ rowed m changes entry
+
+-- the method of an analysis, and its bytes for a change
+abbrev pub methodOf : Analysis → (netlist list : List ℕ) → Method
+methodOf Full n l = fullOf n l
+methodOf Forward n l = forwardOf n l
+methodOf Core n l = coreOf n l
+
+abbrev pub widthFor : Analysis → (signals outputs : ℕ) → ℕ
+widthFor Full signals outputs = signals
+widthFor Forward signals outputs = outputs
+widthFor Core signals outputs = outputs
 
 -- its answer for any list, and what it leaves
 pub record Answers (m : Method) (netlist list entry exit : List ℕ) (r : Judged) : Type 0 where

@@ -5,9 +5,9 @@ ghost use lib.ListN.{length, drop};
 ghost use Rattle.kung.specs.Tables.{gateTable};
 ghost use Rattle.forward.specs.Lent.{Judgeable};
 ghost use Rattle.batch.specs.Batch.{coreBytes, coreSum, fullOf, forwardOf, coreOf};
-ghost use Rattle.batch.specs.Lent.{AllOf, Room, Judges, Answers};
+ghost use Rattle.batch.specs.Lent.{AllOf, Room, Judges, methodOf, widthFor, Answers};
 use changes::Listed;
-use core::Counts;
+use visit::Counts;
 
 // The answer of a method: the number of changes, the bytes of each and two sums over all changes; or a refusal.
 pub enum Judged {
@@ -58,40 +58,6 @@ fn full_rows(
     }
 }
 
-// The class of each signal in each change of a list.
-pub fn full(netlist: &[u8], list: &[u8], buffer: &mut [u8]) -> Judged
-    ensures { λ r. ⌜ Answers (fullOf (now (netlist .entry)) (now (list .entry))) (now (netlist .entry)) (now (list .entry)) (now (buffer .entry)) (now (buffer .exit)) r ⌝ }
-{
-    let listed = changes::check(netlist, list);
-    match listed {
-        Listed::Refused(number, place) => Judged::Refused(number, place),
-        Listed::Accepted {
-            inputs,
-            gates,
-            outputs,
-            pins: _,
-            entries,
-            changes,
-            width,
-        } => {
-            if buffer.len() < changes * (inputs + gates) {
-                return Judged::Refused(20, 0);
-            }
-            full_rows(
-                netlist,
-                list,
-                inputs,
-                gates,
-                outputs,
-                entries,
-                width,
-                changes,
-                buffer,
-            )
-        }
-    }
-}
-
 // The forward method on each change, without a check.
 fn forward_rows(
     netlist: &[u8],
@@ -139,40 +105,6 @@ fn forward_rows(
         width: outputs,
         first: touched,
         second: visited,
-    }
-}
-
-// The forward method's verdict on each output in each change of a list.
-pub fn forward(netlist: &[u8], list: &[u8], buffer: &mut [u8]) -> Judged
-    ensures { λ r. ⌜ Answers (forwardOf (now (netlist .entry)) (now (list .entry))) (now (netlist .entry)) (now (list .entry)) (now (buffer .entry)) (now (buffer .exit)) r ⌝ }
-{
-    let listed = changes::check(netlist, list);
-    match listed {
-        Listed::Refused(number, place) => Judged::Refused(number, place),
-        Listed::Accepted {
-            inputs,
-            gates,
-            outputs,
-            pins: _,
-            entries,
-            changes,
-            width,
-        } => {
-            if buffer.len() < changes * outputs {
-                return Judged::Refused(20, 0);
-            }
-            forward_rows(
-                netlist,
-                list,
-                inputs,
-                gates,
-                outputs,
-                entries,
-                width,
-                changes,
-                buffer,
-            )
-        }
     }
 }
 
@@ -265,9 +197,80 @@ fn core_rows(
     }
 }
 
-// CORE's verdict on each output in each change of a list.
-pub fn core(netlist: &[u8], list: &[u8], buffer: &mut [u8]) -> Judged
-    ensures { λ r. ⌜ Answers (coreOf (now (netlist .entry)) (now (list .entry))) (now (netlist .entry)) (now (list .entry)) (now (buffer .entry)) (now (buffer .exit)) r ⌝ }
+// What to find out of each change.
+enum Analysis {
+    Full,
+    Forward,
+    Core,
+}
+
+// The bytes of a change.
+fn row_width(analysis: Analysis, signals: usize, outputs: usize) -> usize
+    ensures { λ r. ⌜ r ≡ widthFor analysis signals outputs ⌝ }
+{
+    match analysis {
+        Analysis::Full => signals,
+        Analysis::Forward => outputs,
+        Analysis::Core => outputs,
+    }
+}
+
+// An analysis of each change of an accepted list.
+fn judge_rows(
+    analysis: Analysis,
+    netlist: &[u8],
+    list: &[u8],
+    inputs: usize,
+    gates: usize,
+    outputs: usize,
+    entries: usize,
+    width: usize,
+    changes: usize,
+    buffer: &mut [u8],
+) -> Judged
+    requires { ⌜ AllOf (methodOf analysis (now netlist) (now list)) (now netlist) (now list) inputs gates outputs entries width changes (length (now buffer)) ⌝ }
+    ensures { λ r. ⌜ Judges (methodOf analysis (now (netlist .entry)) (now (list .entry))) changes (now (buffer .entry)) (now (buffer .exit)) r ⌝ }
+{
+    match analysis {
+        Analysis::Full => full_rows(
+            netlist,
+            list,
+            inputs,
+            gates,
+            outputs,
+            entries,
+            width,
+            changes,
+            buffer,
+        ),
+        Analysis::Forward => forward_rows(
+            netlist,
+            list,
+            inputs,
+            gates,
+            outputs,
+            entries,
+            width,
+            changes,
+            buffer,
+        ),
+        Analysis::Core => core_rows(
+            netlist,
+            list,
+            inputs,
+            gates,
+            outputs,
+            entries,
+            width,
+            changes,
+            buffer,
+        ),
+    }
+}
+
+// An analysis of each change of a list: the card and the list are checked once.
+fn judge(analysis: Analysis, netlist: &[u8], list: &[u8], buffer: &mut [u8]) -> Judged
+    ensures { λ r. ⌜ Answers (methodOf analysis (now (netlist .entry)) (now (list .entry))) (now (netlist .entry)) (now (list .entry)) (now (buffer .entry)) (now (buffer .exit)) r ⌝ }
 {
     let listed = changes::check(netlist, list);
     match listed {
@@ -281,10 +284,12 @@ pub fn core(netlist: &[u8], list: &[u8], buffer: &mut [u8]) -> Judged
             changes,
             width,
         } => {
-            if buffer.len() < changes * outputs {
+            let row = row_width(analysis, inputs + gates, outputs);
+            if buffer.len() < changes * row {
                 return Judged::Refused(20, 0);
             }
-            core_rows(
+            judge_rows(
+                analysis,
                 netlist,
                 list,
                 inputs,
@@ -297,4 +302,25 @@ pub fn core(netlist: &[u8], list: &[u8], buffer: &mut [u8]) -> Judged
             )
         }
     }
+}
+
+// The class of each signal in each change of a list.
+pub fn full(netlist: &[u8], list: &[u8], buffer: &mut [u8]) -> Judged
+    ensures { λ r. ⌜ Answers (fullOf (now (netlist .entry)) (now (list .entry))) (now (netlist .entry)) (now (list .entry)) (now (buffer .entry)) (now (buffer .exit)) r ⌝ }
+{
+    judge(Analysis::Full, netlist, list, buffer)
+}
+
+// The forward method's verdict on each output in each change of a list.
+pub fn forward(netlist: &[u8], list: &[u8], buffer: &mut [u8]) -> Judged
+    ensures { λ r. ⌜ Answers (forwardOf (now (netlist .entry)) (now (list .entry))) (now (netlist .entry)) (now (list .entry)) (now (buffer .entry)) (now (buffer .exit)) r ⌝ }
+{
+    judge(Analysis::Forward, netlist, list, buffer)
+}
+
+// CORE's verdict on each output in each change of a list.
+pub fn core(netlist: &[u8], list: &[u8], buffer: &mut [u8]) -> Judged
+    ensures { λ r. ⌜ Answers (coreOf (now (netlist .entry)) (now (list .entry))) (now (netlist .entry)) (now (list .entry)) (now (buffer .entry)) (now (buffer .exit)) r ⌝ }
+{
+    judge(Analysis::Core, netlist, list, buffer)
 }

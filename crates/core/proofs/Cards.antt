@@ -23,9 +23,9 @@ use Rattle.search.specs.Search.{search}
 use Rattle.search.specs.Pins.{sumBelow, pinsIn}
 use Rattle.search.proofs.Writes.{closed-all}
 use Rattle.search.proofs.Counts.{search-pins}
-use Rattle.core.specs.Source.{kindFrom, pinsFrom, sourceFrom, GatesOnly, inputsKnown, Ready}
-use Rattle.core.proofs.Codes.{code-small}
-use Rattle.core.proofs.Sources.{source-given, source-gate}
+use Rattle.visit.specs.Source.{kindFrom, pinsFrom, sourceFrom, GatesOnly, inputsKnown, Ready}
+use Rattle.visit.proofs.Codes.{code-small}
+use Rattle.visit.proofs.Sources.{source-given, source-gate}
 
 module _ (netlist known : List ℕ) (only : GatesOnly netlist known) where
   -- a signal is given, or a gate to be searched

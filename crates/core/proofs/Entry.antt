@@ -20,8 +20,8 @@ use Rattle.changes.proofs.Accepted.{listed}
 use Rattle.search.specs.Search.{clean, hazardous, Verdict, Answer, search}
 use Rattle.core.specs.declared.Cored.{Cored}
 use Rattle.core.specs.declared.Cored.the-variants.{Clean, Hazardous, Refused}
-use Rattle.core.specs.Source.{sourceFrom, inputsKnown}
-use Rattle.core.specs.Found.{foundOf}
+use Rattle.visit.specs.Source.{sourceFrom, inputsKnown}
+use Rattle.visit.specs.Found.{foundOf}
 use Rattle.core.specs.Core.{searchOf, guarded, guardedFound, Searchable, judgedBy, coreAnswer}
 use Rattle.core.proofs.Cards.{sources-known}
 

@@ -1,9 +1,3 @@
-pub mod Codes
-pub mod Sources
-mod Checks
-mod Visits
-mod Totals
-mod Searches
 pub mod Cards
 pub mod Entry
 pub mod Theorems

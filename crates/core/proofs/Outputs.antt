@@ -20,9 +20,9 @@ use Rattle.search.specs.Search as search
 use Rattle.search.specs.Search.{Answer, search, visit, begin, fresh, nobody, total, gatesVisited}
 use Rattle.search.specs.Pins.{sumBelow}
 use Rattle.search.proofs.Writes.{visit-length}
-use Rattle.core.specs.Source.{sourceFrom, Ready}
-use Rattle.core.specs.Found.{foundOf, verdictCode}
-use Rattle.core.specs.declared.Found.{Found}
+use Rattle.visit.specs.Source.{sourceFrom, Ready}
+use Rattle.visit.specs.Found.{foundOf, verdictCode}
+use Rattle.visit.specs.declared.Found.{Found}
 use Rattle.core.specs.Outputs.{verdictByte, byteOf, searchFrom, byteFrom, sumFrom}
 use Rattle.core.proofs.Cards.{search-within}
 

@@ -19,7 +19,7 @@ use Rattle.search.specs.Search.{judged}
 use Rattle.search.specs.Search
 use Rattle.search.proofs.Right.{search-right}
 use Rattle.search.proofs.Counts.{search-gates}
-use Rattle.core.specs.Source.{sourceFrom, inputsKnown}
+use Rattle.visit.specs.Source.{sourceFrom, inputsKnown}
 use Rattle.core.specs.Core.{answered, guarded, searchOf, coreAnswer}
 use Rattle.core.proofs.Cards.{inputs-only, search-within}
 use Rattle.core.proofs.Entry.{search-is, answers}

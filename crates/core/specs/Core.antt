@@ -14,9 +14,9 @@ use Rattle.changes.specs.declared.Listed.the-variants as list
 use Rattle.changes.specs.Changes.{widthOf, sourcesOf}
 use Rattle.changes.specs.Refusals.{listChecked}
 use Rattle.search.specs.Search.{Verdict, clean, hazardous, Answer, search}
-use Rattle.core.specs.declared.Verdict as found
-use Rattle.core.specs.declared.Verdict.the-variants as verdict
-use Rattle.core.specs.declared.Found.{Found}
+use Rattle.visit.specs.declared.Verdict as found
+use Rattle.visit.specs.declared.Verdict.the-variants as verdict
+use Rattle.visit.specs.declared.Found.{Found}
 use Rattle.core.specs.declared.Cored.{Cored}
 use Rattle.core.specs.declared.Cored.the-variants.{Clean, Hazardous, Refused}
 

@@ -1,4 +1,2 @@
-pub mod Source
-pub mod Found
 pub mod Core
 pub mod Outputs

@@ -7,9 +7,9 @@ use Rattle.words.specs.Words.{wordAt}
 use Rattle.search.specs.Search as search
 use Rattle.search.specs.Search.{Answer, search}
 use Rattle.search.specs.Pins.{sumBelow}
-use Rattle.core.specs.Source.{Ready, sourceFrom}
-use Rattle.core.specs.declared.Verdict.{Verdict}
-use Rattle.core.specs.declared.Verdict.the-variants.{Clean, Hazardous}
+use Rattle.visit.specs.Source.{Ready, sourceFrom}
+use Rattle.visit.specs.declared.Verdict.{Verdict}
+use Rattle.visit.specs.declared.Verdict.the-variants.{Clean, Hazardous}
 
 -- "The first O bytes of a lent buffer get 0 (clean) or 1 (hazardous)": an output's byte, by its verdict and by the code's
 abbrev pub verdictByte : search.Verdict → ℕ

@@ -31,9 +31,9 @@ use Rattle.changes.proofs.Accepted.{listed}
 use Rattle.search.specs.Search.{search}
 use Rattle.search.specs.Pins.{sumBelow}
 use Rattle.search.proofs.Laws.{fresh-at}
-use Rattle.core.specs.Source.{kindFrom, pinsFrom, sourceFrom, GatesOnly}
+use Rattle.visit.specs.Source.{kindFrom, pinsFrom, sourceFrom, GatesOnly}
 use Rattle.core.specs.Outputs.{verdictByte, searchFrom, byteFrom, sumFrom, OutputsReady}
-use Rattle.core.proofs.Codes.{code-small}
+use Rattle.visit.proofs.Codes.{code-small}
 use Rattle.core.proofs.Cards.{ready}
 use Rattle.simulate.specs.Full.{classIn, codes}
 use Rattle.simulate.proofs.Theorems.{class-value, codes-length, codes-at}

@@ -8,9 +8,9 @@ use Rattle.kung.specs.Class.{ofCode}
 use Rattle.kung.specs.Sets.{cleanSet}
 use Rattle.netlist.specs.Netlist.{outputAt}
 use Rattle.search.specs.Search.{Verdict, clean, hazardous, search}
-use Rattle.core.specs.declared.Found.{Found}
-use Rattle.core.specs.Source.{sourceFrom}
-use Rattle.core.specs.Found.{verdictCode, foundOf}
+use Rattle.visit.specs.declared.Found.{Found}
+use Rattle.visit.specs.Source.{sourceFrom}
+use Rattle.visit.specs.Found.{verdictCode, foundOf}
 use Rattle.core.proofs.Entry.{clean-set}
 use Rattle.report.specs.Text.{verdictLine}
 use Rattle.listing.specs.Listing.{isClean}

@@ -19,7 +19,7 @@ use Rattle.simulate.specs.Full.{Ready, codes, classIn}
 use Rattle.simulate.proofs.Answers.{ready}
 use Rattle.simulate.proofs.Theorems.{codes-length, codes-at}
 use Rattle.search.specs.Search.{search}
-use Rattle.core.specs.Source.{sourceFrom, GatesOnly, inputsKnown}
+use Rattle.visit.specs.Source.{sourceFrom, GatesOnly, inputsKnown}
 use Rattle.core.specs.Core.{searchOf}
 use Rattle.core.proofs.Cards as cards
 use Rattle.core.proofs.Entry.{known-length, search-is}

@@ -12,9 +12,9 @@ use Rattle.changes.specs.declared.Listed.{Listed}
 use Rattle.changes.specs.declared.Listed.the-variants.{Accepted, Refused}
 use Rattle.changes.specs.Refusals.{listChecked}
 use Rattle.search.specs.Search.{search}
-use Rattle.core.specs.declared.Verdict.{Verdict}
-use Rattle.core.specs.declared.Verdict.the-variants.{Clean, Hazardous}
-use Rattle.core.specs.Source.{sourceFrom, Ready}
+use Rattle.visit.specs.declared.Verdict.{Verdict}
+use Rattle.visit.specs.declared.Verdict.the-variants.{Clean, Hazardous}
+use Rattle.visit.specs.Source.{sourceFrom, Ready}
 use Rattle.report.specs.Text.{verdictLine}
 use Rattle.report.specs.Appended.{Appended}
 use Rattle.listing.specs.declared.Sizes.{Sizes}

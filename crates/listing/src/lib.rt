@@ -8,7 +8,7 @@ ghost use Rattle.listing.specs.Listing.{texts, changeLines, firstLine};
 ghost use Rattle.listing.specs.Lent.{sizesOf, cleanVerdict, lineFrom, Lined, Tabled, Headed, Paged};
 use changes::Listed;
 use core::CLEAN_SET;
-use core::Verdict;
+use visit::Verdict;
 
 // The most bytes of a change's lines: 64 lines of at most 48 bytes.
 const ROOM: usize = 3072;
@@ -123,7 +123,7 @@ fn put_output(
     ensures { λ r. ⌜ Appended (now (buffer .entry)) (now (buffer .exit)) at r (lineFrom (now (netlist .entry)) (now (known .entry)) (now (classes .entry)) change output) ⌝ }
 {
     let s = netlist::entry_at(netlist, sizes.entries, output) as usize;
-    let found = core::find(
+    let found = visit::find(
         images,
         wanteds,
         netlist,

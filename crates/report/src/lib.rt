@@ -81,6 +81,15 @@ fn put_judgement(buffer: &mut [u8], at: usize, clean: bool) -> usize
     }
 }
 
+// A number and the word for what it counts.
+fn put_count(buffer: &mut [u8], at: usize, n: usize, word: &[u8], end: u8) -> usize
+    requires { ⌜ at + length (decimal n ++ (32 ∷ [])) + length (now word ++ (end ∷ [])) ≤ length (now buffer) ⌝ }
+    ensures { λ r. ⌜ Appended (now (buffer .entry)) (now (buffer .exit)) at r ((decimal n ++ (32 ∷ [])) ++ (now (word .entry) ++ (end ∷ []))) ⌝ }
+{
+    let at = put_number(buffer, at, n, b' ');
+    put_word(buffer, at, word, end)
+}
+
 pub fn put_counts(
     buffer: &mut [u8],
     at: usize,
@@ -92,14 +101,10 @@ pub fn put_counts(
     requires { ⌜ at + length (countsLine inputs gates outputs changes) ≤ length (now buffer) ⌝ }
     ensures { λ r. ⌜ Appended (now (buffer .entry)) (now (buffer .exit)) at r (countsLine inputs gates outputs changes) ⌝ }
 {
-    let at = put_number(buffer, at, inputs, b' ');
-    let at = put_word(buffer, at, b"inputs", b' ');
-    let at = put_number(buffer, at, gates, b' ');
-    let at = put_word(buffer, at, b"gates", b' ');
-    let at = put_number(buffer, at, outputs, b' ');
-    let at = put_word(buffer, at, b"outputs", b' ');
-    let at = put_number(buffer, at, changes, b' ');
-    put_word(buffer, at, b"changes", b'\n')
+    let at = put_count(buffer, at, inputs, b"inputs", b' ');
+    let at = put_count(buffer, at, gates, b"gates", b' ');
+    let at = put_count(buffer, at, outputs, b"outputs", b' ');
+    put_count(buffer, at, changes, b"changes", b'\n')
 }
 
 pub fn put_verdict(

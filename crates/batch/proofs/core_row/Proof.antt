@@ -10,7 +10,7 @@ use Rattle.netlist.specs.Netlist.{inputsOf}
 use Rattle.changes.specs.Changes.{widthOf, inputClassAt, inputCodes, codeAt}
 use Rattle.changes.proofs.Laws.{tab-length}
 use Rattle.changes.proofs.Accepted.{listed}
-use Rattle.core.specs.Source.{inputsKnown}
+use Rattle.visit.specs.Source.{inputsKnown}
 use Rattle.core.proofs.Entry.{known-is, known-length}
 use Rattle.batch.proofs.Changes.{card, searchable, sums-are, bytes-are}
 use borrow.Author.Needs.{needs}

@@ -5,7 +5,7 @@ use mathlib.Core.Path.{_≡_, _∙_, sym}
 use mathlib.Core.Bool.{true}
 use borrow.Author.Needs.{needs}
 use borrow.Author.Tests.{not-true, not-false}
-use Rattle.words.specs.Words.{marked}
+use Rattle.words.specs.Words.{marked, wordAt}
 use Rattle.changes.specs.Changes.{widthOf, sizeOf}
 use Rattle.changes.proofs.Laws.{change-high}
 use Rattle.changes.proofs.Refusals.{Opened, list-short, list-mark, list-version, list-tie, list-many, list-length, list-pass}
@@ -15,10 +15,13 @@ use Rattle.changes.proofs.check_list.Tie as tie
 marked-in : (c : tie.Else2) → marked (c .before .before .before .before .args .list .now) 0x4C 0x43 0x54 ≡ true
 marked-in c = sym (c .before .is-marked .ensures) ∙ not-false _ (c .if2 .left)
 
+version-is : (c : tie.Else3) → wordAt (c .before .before .before .before .before .before .args .list .now) 3 ≡ 1
+version-is c = sym (c .before .word-at .ensures) ∙ c .if3 .left
+
 opened : (c : tie.Else4) → (let a = c .before .before .before .before .before .before .before .before .args in Opened 1 (a .tie) (a .list .now))
 opened c =
     let m = c .before .before .before .before in
-    (m .before .before .if1 .left, marked-in m, cc, cc)
+    (m .before .before .if1 .left, marked-in m, version-is (c .before .before), sym (c .before .long-at .ensures) ∙ c .if4 .left)
 
 high : (c : tie.Else5) → (let a = c .before .before .before .before .before .before .before .before .before .before .args in
     c .before .word-at2 .result * sizeOf (widthOf (a .inputs)) ≤ 64000)
@@ -47,7 +50,7 @@ long-at-requires c κs = search needs
 returns-4 : tie.Need-returns-4
 returns-4 c =
     let m = c .before .before .before .before in
-    sym (list-tie _ _ _ _ _ _ (m .before .before .if1 .left) (marked-in m) (cc) (λ e. c .if4 .taken (c .before .long-at .ensures ∙ e)))
+    sym (list-tie _ _ _ _ _ _ (m .before .before .if1 .left) (marked-in m) (version-is (c .before .before)) (λ e. c .if4 .taken (c .before .long-at .ensures ∙ e)))
 
 word-at-requires-2 : tie.Need-word-at-requires-2
 word-at-requires-2 c κs = search needs

@@ -39,7 +39,7 @@ class-of-bits-requires c κs = search needs
 
 returns : tie.Need-returns
 unfolding inputClassAt bitAt
-returns c = cc
+returns c = rw (← c .before .before .byte-at .ensures, ← c .before .byte-at2 .ensures) (c .class-of-bits .ensures)
 
 pub class-of-input-spec : {M : Type 1} → statement M
 class-of-input-spec =

@@ -10,7 +10,7 @@ use Rattle.changes.specs.Changes.{sourcesOf}
 use Rattle.changes.specs.Refusals.{listChecked}
 use Rattle.changes.proofs.Accepted.{listed}
 use Rattle.search.specs.Search
-use Rattle.core.specs.Found.{foundOf}
+use Rattle.visit.specs.Found.{foundOf}
 use Rattle.core.specs.Core.{Searchable, guardedFound, searchOf}
 use Rattle.core.proofs.Entry.{refused-list, refused-change, refused-output, answers, searchable, guard-is}
 use borrow.Author.Needs.{needs}

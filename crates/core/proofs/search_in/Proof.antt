@@ -8,8 +8,8 @@ use Rattle.kung.specs.Class.{Class}
 use Rattle.netlist.specs.Netlist.{inputsOf}
 use Rattle.changes.specs.Changes.{widthOf, inputClassAt, inputCodes}
 use Rattle.search.specs.Search
-use Rattle.core.specs.Source.{sourceFrom, GatesOnly, inputsKnown}
-use Rattle.core.specs.Found.{foundOf}
+use Rattle.visit.specs.Source.{sourceFrom, GatesOnly, inputsKnown}
+use Rattle.visit.specs.Found.{foundOf}
 use Rattle.core.proofs.Cards.{ready, inputs-only}
 use Rattle.core.proofs.Entry.{known-is, known-length, search-is, clean-set}
 use borrow.Author.Needs.{needs}

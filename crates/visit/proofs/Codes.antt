@@ -1,0 +1,98 @@
+-- The code's numbers for kinds, classes, sets and waiting gates. Assumes nothing.
+use Prim.Native.Nat.{ℕ, zero, suc, _+_, _-_, _*_, _/_, _%_, _^_, _<_}
+use native.Mathlib.Omega.{arith}
+use mathlib.Core.Path.{_≡_, refl, sym, _∙_, ap}
+use mathlib.Core.Bool.{Bool, true, false, cond, not, _&&_}
+use lib.Bits.{bitAnd, and-shr, and-mod, and-le-l}
+use lib.Dec.{eqb}
+use lib.ListN.{getD}
+use borrow.Author.Tests.{lt-ltb}
+use Rattle.kung.specs.Class.{Class, c0, code, classes, ofCode}
+use Rattle.kung.specs.Rule.{kindOf, some as someOf}
+use Rattle.kung.specs.Operation.{Op, and, or, opOf, inverts, opCode, opAt, unit}
+use Rattle.kung.specs.Sets.{bit, has, meets, keep, possible, only as onlyCode}
+use Rattle.kung.specs.Tables.{tab}
+use Rattle.kung.proofs.Finite.{ofCode-code}
+use Rattle.kung.proofs.Listed.{agree}
+use Rattle.search.specs.Search.{onlyOf, only, waits}
+use Rattle.visit.specs.Found.{waitingOf, codeOr}
+
+-- a kind's operation, and whether it inverts
+pub kind-operation : (kind : ℕ) → kind < 256 → opCode (opOf (kindOf kind)) ≡ cond (eqb kind 4) 1 (cond (eqb kind 6) 1 0)
+unfolding kindOf tab
+kind-operation = agree (λ kind. opCode (opOf (kindOf kind))) (λ kind. cond (eqb kind 4) 1 (cond (eqb kind 6) 1 0)) 256 refl
+
+bit-same : (a b : Bool) → bit a ≡ bit b → a ≡ b
+bit-same true true e = refl
+bit-same true false e = absurd (omega arith)
+bit-same false true e = absurd (omega arith)
+bit-same false false e = refl
+
+pub kind-inverts : (kind : ℕ) → kind < 256 → inverts (kindOf kind) ≡ cond (eqb kind 1) true (cond (eqb kind 5) true (eqb kind 6))
+unfolding kindOf tab
+kind-inverts kind h =
+    bit-same _ _
+    (agree (λ kind. bit (inverts (kindOf kind))) (λ kind. bit (cond (eqb kind 1) true (cond (eqb kind 5) true (eqb kind 6)))) 256 refl kind h)
+
+pub op-code : (o : Op) → opAt (opCode o) ≡ o
+op-code and = refl
+op-code or = refl
+
+pub op-small : (o : Op) → opCode o < 2
+op-small and = omega arith
+op-small or = omega arith
+
+pub unit-code : (o : Op) → 1 - opCode o ≡ code (unit o)
+unit-code and = refl
+unit-code or = refl
+
+pub code-ofCode : (n : ℕ) → code (ofCode n) ≡ n % 8
+unfolding ofCode tab
+code-ofCode n = agree (λ i. code (getD classes i c0)) (λ i. i) 8 refl (n % 8) (omega arith)
+
+pub code-small : (k : Class) → code k < 8
+code-small k = omega (arith, code-ofCode (code k), ap code (ofCode-code k))
+
+-- the number of a gate that waits
+pub waiter-code : (o : Op) (p : ℕ) → waitingOf (8 * opCode o + p % 8) ≡ waits o (ofCode p)
+unfolding waitingOf ofCode
+waiter-code o p =
+    rw (lt-ltb (8 * opCode o + p % 8) 16 (omega (arith, op-small o)))
+    (let h : (8 * opCode o + p % 8) / 8 ≡ opCode o = omega arith in
+    let l : (8 * opCode o + p % 8) % 8 ≡ p % 8 = omega arith in
+    rw (h, l, op-code o))
+
+-- a set's only class
+pub only-code : (m : ℕ) → m < 256 → onlyCode m ≡ codeOr (only m)
+unfolding onlyCode keep has only onlyOf tab
+only-code = agree onlyCode (λ m. codeOr (only m)) 256 refl
+
+-- sets that share a class, by their bits
+and-bit : (x y : ℕ) → x < 2 → y < 2 → eqb (bitAnd x y) 1 ≡ eqb x 1 && eqb y 1
+and-bit zero zero p q = refl
+and-bit zero (suc zero) p q = refl
+and-bit zero (suc (suc y)) p q = absurd (omega arith)
+and-bit (suc zero) zero p q = refl
+and-bit (suc zero) (suc zero) p q = refl
+and-bit (suc zero) (suc (suc y)) p q = absurd (omega arith)
+and-bit (suc (suc x)) y p q = absurd (omega arith)
+
+has-and : (m w : ℕ) (k : Class) → has (bitAnd m w) k ≡ has m k && has w k
+unfolding has
+has-and m w k =
+    rw (and-shr m w (code k), and-mod (m / 2 ^ code k) (w / 2 ^ code k) 1)
+    (and-bit (m / 2 ^ code k % 2) (w / 2 ^ code k % 2) (omega arith) (omega arith))
+
+some-class : (z : ℕ) → z < 256 → someOf (has z) classes ≡ not (eqb z 0)
+unfolding someOf has tab
+some-class z h = bit-same _ _ (agree (λ z. bit (someOf (has z) classes)) (λ z. bit (not (eqb z 0))) 256 refl z h)
+
+pub meets-and : (m w : ℕ) → m < 256 → meets m w ≡ not (eqb (bitAnd m w) 0)
+unfolding meets
+meets-and m w h =
+    (λ i. someOf (λ k. sym (has-and m w k) i) classes) ∙ some-class (bitAnd m w) (omega (arith, and-le-l m w))
+
+-- a possible set, where the kind is given by its operation and whether it inverts
+pub possible-kind : (kind operation : ℕ) (inverting : Bool) (p : Class) (left : Bool) → operation ≡ opCode (opOf (kindOf kind)) → inverting ≡ inverts (kindOf kind)
+    → possible (opAt operation) inverting p left ≡ possible (opOf (kindOf kind)) (inverts (kindOf kind)) p left
+possible-kind kind operation inverting p left e f = rw (e, f, op-code (opOf (kindOf kind)))
