@@ -35,7 +35,7 @@ fn full_rows(
     requires { ⌜ AllOf (fullOf (now netlist) (now list)) (now netlist) (now list) inputs gates outputs entries width changes (length (now buffer)) ⌝ }
     ensures { λ r. ⌜ Judges (fullOf (now (netlist .entry)) (now (list .entry))) changes (now (buffer .entry)) (now (buffer .exit)) r ⌝ }
 {
-    let table = kung::gate_table();
+    let table = tables::gate_table();
     let signals = inputs + gates;
     for change in 0..changes {
         let at = change * signals;
@@ -73,9 +73,9 @@ fn forward_rows(
     requires { ⌜ AllOf (forwardOf (now netlist) (now list)) (now netlist) (now list) inputs gates outputs entries width changes (length (now buffer)) ⌝ }
     ensures { λ r. ⌜ Judges (forwardOf (now (netlist .entry)) (now (list .entry))) changes (now (buffer .entry)) (now (buffer .exit)) r ⌝ }
 {
-    let table = kung::gate_table();
-    let images = kung::images();
-    let wanteds = kung::wanted_table();
+    let table = tables::gate_table();
+    let images = tables::images();
+    let wanteds = tables::wanted_table();
     let mut places: [u16; 2048] = [0; 2048];
     netlist::fill_places(netlist, &mut places, gates);
     let mut touched: usize = 0;
@@ -160,8 +160,8 @@ fn core_rows(
     requires { ⌜ AllOf (coreOf (now netlist) (now list)) (now netlist) (now list) inputs gates outputs entries width changes (length (now buffer)) ⌝ }
     ensures { λ r. ⌜ Judges (coreOf (now (netlist .entry)) (now (list .entry))) changes (now (buffer .entry)) (now (buffer .exit)) r ⌝ }
 {
-    let images = kung::images();
-    let wanteds = kung::wanted_table();
+    let images = tables::images();
+    let wanteds = tables::wanted_table();
     let mut places: [u16; 2048] = [0; 2048];
     netlist::fill_places(netlist, &mut places, gates);
     let mut known = [8u8; 2304];

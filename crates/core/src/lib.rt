@@ -98,8 +98,8 @@ fn search_in(
     requires { ⌜ Searchable (now netlist) inputs gates width change s ⌝ }
     ensures { λ r. ⌜ r ≡ foundOf (search (sourcesOf (now (netlist .entry)) (now (list .entry)) change) cleanSet s) ⌝ }
 {
-    let images = kung::images();
-    let wanteds = kung::wanted_table();
+    let images = tables::images();
+    let wanteds = tables::wanted_table();
     netlist::fill_places(netlist, places, gates);
     changes::fill_inputs(list, width, change, inputs, known);
     let signals = inputs + gates;

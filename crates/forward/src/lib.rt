@@ -133,9 +133,9 @@ fn judge_alone(
     requires { ⌜ ChangeOf (now netlist) (now list) inputs gates outputs entries width change (length (now buffer)) ⌝ }
     ensures { λ r. ⌜ (r .touched ≡ touchedIn (now (netlist .entry)) (now (list .entry)) change) × (r .visited ≡ visitedIn (now (netlist .entry)) (now (list .entry)) change) × (now (buffer .exit) ≡ forwardBytes (now (netlist .entry)) (now (list .entry)) change ++ drop outputs (now (buffer .entry))) ⌝ }
 {
-    let table = kung::gate_table();
-    let images = kung::images();
-    let wanteds = kung::wanted_table();
+    let table = tables::gate_table();
+    let images = tables::images();
+    let wanteds = tables::wanted_table();
     let mut places: [u16; 2048] = [0; 2048];
     netlist::fill_places(netlist, &mut places, gates);
     judge(

@@ -3,5 +3,4 @@ pub mod Laws
 pub mod SetLaws
 pub mod Listed
 pub mod Unions
-pub mod Doubled
 pub mod Places

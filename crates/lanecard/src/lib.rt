@@ -20,7 +20,7 @@ use simulate::Simulated;
 pub extern "C" fn lane_join(operation: u8, a: u8, b: u8) -> u8
     ensures { λ r. ⌜ r ≡ code (join (opAt operation) (ofCode a) (ofCode b)) ⌝ }
 {
-    let table = kung::images();
+    let table = tables::images();
     kung::joined(&table, operation, a, b)
 }
 

@@ -290,9 +290,9 @@ pub fn put_changes(
     requires { ⌜ (from < sizes .changes) × (3072 ≤ length (now buffer)) ⌝ }
     ensures { λ r. ⌜ Paged (now (netlist .entry)) (now (list .entry)) (now (buffer .entry)) (now (buffer .exit)) (sizes .changes) from r ⌝ }
 {
-    let images = kung::images();
-    let wanteds = kung::wanted_table();
-    let table = kung::gate_table();
+    let images = tables::images();
+    let wanteds = tables::wanted_table();
+    let table = tables::gate_table();
     let mut places = [0u16; 2048];
     netlist::fill_places(netlist, &mut places, sizes.gates);
     put_page(

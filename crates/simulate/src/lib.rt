@@ -100,7 +100,7 @@ pub fn full(netlist: &[u8], list: &[u8], change: usize, buffer: &mut [u8]) -> Si
             if buffer.len() < inputs + gates {
                 return Simulated::Refused(20, 0);
             }
-            let table = kung::gate_table();
+            let table = tables::gate_table();
             classify(&table, netlist, list, inputs, gates, width, change, buffer);
             Simulated::Done
         }

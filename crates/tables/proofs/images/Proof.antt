@@ -1,4 +1,4 @@
--- `kung::images` meets its contract: a row's rule takes unions to unions, so antt computes the table by doubling. Assumes nothing.
+-- `tables::images` meets its contract: a row's rule takes unions to unions, so antt computes the table by doubling. Assumes nothing.
 use mathlib.Core.Path.{_≡_, refl, sym, _∙_}
 use mathlib.Core.Bool.{cond}
 use Prim.Native.Nat.{ℕ, _+_, _*_, _/_, _%_, _^_, _<_}
@@ -6,15 +6,15 @@ use native.Mathlib.Omega.{arith}
 use lib.Bits.{bitOr}
 use lib.Dec.{eqb}
 use lib.ListN.{getD}
 use Rattle.kung.specs.Class.{c0, classes, ofCode}
 use Rattle.kung.specs.Rule.{each, some, andAll, orAll}
 use Rattle.kung.specs.Operation.{and, or, opAt, joinAll, join}
 use Rattle.kung.specs.Sets.{setOf, has, image}
 use Rattle.kung.specs.Tables.{imageRule, imageTable}
 use Rattle.kung.proofs.Unions.{image-or}
-use Rattle.kung.proofs.Doubled.{doubled, rows, tab-rows, by-unions}
-use Rattle.kung.proofs.images.Statement.{statement}
-use Rattle.kung.proofs.images.Tie as tie
+use Rattle.tables.proofs.Doubled.{doubled, rows, tab-rows, by-unions}
+use Rattle.tables.proofs.images.Statement.{statement}
+use Rattle.tables.proofs.images.Tie as tie
 
 -- row r has an operation and a class
 rowRule : ℕ → ℕ → ℕ

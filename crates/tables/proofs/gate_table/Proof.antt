@@ -1,22 +1,22 @@
--- `kung::gate_table` meets its contract: antt computes a kind's row by joining in one class after the other. Assumes nothing.
+-- `tables::gate_table` meets its contract: antt computes a kind's row by joining in one class after the other. Assumes nothing.
 use mathlib.Core.Path.{_≡_, refl, sym, _∙_, ap}
 use mathlib.Core.Bool.{Bool, true, false, _||_}
 use Prim.Native.Nat.{ℕ, _+_, _*_, _/_, _%_, _^_, _<_}
 use native.Mathlib.Omega.{arith}
 use lib.Bits.{or-shifted-r}
 use lib.ListN.{getD}
 use Rattle.kung.specs.Class.{Class, c0, code, classes, ofCode, same}
 use Rattle.kung.specs.Rule.{each, some, andAll, orAll, Kind, kindOf, gateClass}
 use Rattle.kung.specs.Operation.{opOf, inverts, invertIf, join, joinAll}
 use Rattle.kung.specs.Sets.{has, keep, members}
 use Rattle.kung.specs.Tables.{gateRule, gateTable}
 use Rattle.kung.proofs.Finite.{ofCode-code}
 use Rattle.kung.proofs.Laws.{invert-invert, gateClass-op}
 use Rattle.kung.proofs.SetLaws.{has-setOf, join-more}
 use Rattle.kung.proofs.Unions.{has-or, one-class}
-use Rattle.kung.proofs.Doubled.{Doubles, doubled, rows, tab-rows}
-use Rattle.kung.proofs.gate_table.Statement.{statement}
-use Rattle.kung.proofs.gate_table.Tie as tie
+use Rattle.tables.proofs.Doubled.{Doubles, doubled, rows, tab-rows}
+use Rattle.tables.proofs.gate_table.Statement.{statement}
+use Rattle.tables.proofs.gate_table.Tie as tie
 
 -- bit j joins in the class of code j
 has-more : (j m : ℕ) → j < 8 → m < 2 ^ j → (x : Class) → has (2 ^ j + m) x ≡ (has m x || same (getD classes j c0) x)
