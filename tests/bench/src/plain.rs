@@ -108,9 +108,12 @@ fn tie(netlist: &[u8]) -> u32 {
     b
 }
 
-/// Checks a netlist and its list; gives the card and T.
-pub fn check_list(netlist: &[u8], list: &[u8]) -> Result<(Card, usize), Refused> {
-    let card = check_netlist(netlist)?;
+/// Checks a list's head and length; gives T and a vector's width.
+pub fn check_head(
+    list: &[u8],
+    inputs: usize,
+    tie: impl FnOnce() -> u32,
+) -> Result<(usize, usize), Refused> {
     if list.len() < 11 {
         return Err((11, list.len()));
     }
@@ -120,17 +123,24 @@ pub fn check_list(netlist: &[u8], list: &[u8]) -> Result<(Card, usize), Refused>
     if word(list, 3) != 1 {
         return Err((13, 3));
     }
-    if list[5..9] != tie(netlist).to_le_bytes() {
+    if list[5..9] != tie().to_le_bytes() {
         return Err((14, 5));
     }
     let changes = word(list, 9);
     if changes > 1000 {
         return Err((15, 9));
     }
-    let width = card.inputs.div_ceil(8);
-    if list.len() != 11 + 2 * changes * width {
-        return Err((16, list.len()));
+    let width = inputs.div_ceil(8);
+    match list.len() == 11 + 2 * changes * width {
+        true => Ok((changes, width)),
+        false => Err((16, list.len())),
     }
+}
+
+/// Checks a netlist and its list; gives the card and T.
+pub fn check_list(netlist: &[u8], list: &[u8]) -> Result<(Card, usize), Refused> {
+    let card = check_netlist(netlist)?;
+    let (changes, width) = check_head(list, card.inputs, || tie(netlist))?;
     if card.inputs % 8 != 0 {
         for at in (11 + width - 1..list.len()).step_by(width) {
             if list[at] >> (card.inputs % 8) != 0 {

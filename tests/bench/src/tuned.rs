@@ -1,7 +1,7 @@
 //! The same calls in safe Rust, tuned: tables, no allocation, one pass for the
 //! check that also notes where records stand.
 
-use crate::plain::{fill_rows, Sums};
+use crate::plain::{check_head, fill_rows, Sums};
 use crate::tables::{
     CONSTANT, COUNTS, FLAVOUR, GATE, IMAGE, JOIN, LANES, NO_WAITING, POSSIBLE, WANTED,
 };
@@ -170,26 +170,7 @@ pub fn check_list(
     index: &mut Index,
 ) -> Result<(usize, usize), Refused> {
     check_netlist(netlist, index)?;
-    if list.len() < 11 {
-        return Err((11, list.len()));
-    }
-    if &list[..3] != b"LCT" {
-        return Err((12, 0));
-    }
-    if word(list, 3) != 1 {
-        return Err((13, 3));
-    }
-    if list[5..9] != tie(netlist).to_le_bytes() {
-        return Err((14, 5));
-    }
-    let changes = word(list, 9);
-    if changes > 1000 {
-        return Err((15, 9));
-    }
-    let width = index.inputs.div_ceil(8);
-    if list.len() != 11 + 2 * changes * width {
-        return Err((16, list.len()));
-    }
+    let (changes, width) = check_head(list, index.inputs, || tie(netlist))?;
     if !index.inputs.is_multiple_of(8) {
         let spare = 0xFFu8 << (index.inputs % 8);
         let vectors = list[11..].chunks_exact(width);

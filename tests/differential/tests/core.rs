@@ -4,9 +4,11 @@
 use differential::{found, right};
 use reference::cases;
 use reference::core::{self, Answer, Statistics, Verdict};
-use reference::netlist::{Card, Gate, Kind, KINDS, MAX_GATES, MAX_INPUTS};
-use reference::random::{self, Random, Shape, SHAPES};
+use reference::netlist::{Card, Gate, Kind, KINDS, MAX_GATES};
+use reference::random::{self, Random, Shape, LIMITS, SHAPES};
 use reference::{changes, full};
+
+mod refusals;
 
 /// What a run of comparisons has seen.
 #[derive(Default)]
@@ -106,12 +108,7 @@ fn cards_of_every_size() {
         compare_card(&mut seen, &mut random, &card, 2);
     }
     for shape in SHAPES {
-        for (inputs, gates) in [
-            (1, 0),
-            (1, MAX_GATES),
-            (MAX_INPUTS, 0),
-            (MAX_INPUTS, MAX_GATES),
-        ] {
+        for (inputs, gates) in LIMITS {
             let card = random::card(&mut random, shape, inputs, gates, 64);
             compare_card(&mut seen, &mut random, &card, 2);
         }
@@ -262,21 +259,12 @@ fn numbers_past_the_end() {
 
 #[test]
 fn damaged_files() {
-    let mut random = Random::new(48);
-    let mut met = [0; 22];
-    for _ in 0..3000 {
-        let card = random::small_card(&mut random);
-        let (netlist, list) = random::damaged_files(&mut random, &card, 2);
-        let change = random.pick(&[0, 1, 2, usize::MAX]);
+    refusals::all_met("core", 48, 0..20, |random, _, (netlist, list), change| {
         let output = random.pick(&[0, 1, 5, 64]);
-        let right = right::core(&netlist, &list, change, output);
-        assert_eq!(found::core(&netlist, &list, change, output), right);
-        met[right.0 as usize] += 1;
-    }
-    for (number, times) in met.iter().enumerate().take(20) {
-        assert!(*times > 0, "refusal {number} not met: {met:?}");
-    }
-    println!("core damaged: 3000 calls compared, by number {met:?}");
+        let right = right::core(netlist, list, change, output);
+        assert_eq!(found::core(netlist, list, change, output), right);
+        right.0
+    });
 }
 
 /// The verdict is full simulation's class, through the library alone.

@@ -5,8 +5,10 @@ use differential::{found, right, same_filling, Answer};
 use reference::cases;
 use reference::changes;
 use reference::classes::Class;
-use reference::netlist::{Card, Gate, Kind, MAX_GATES, MAX_INPUTS};
-use reference::random::{self, Random, Shape, SHAPES};
+use reference::netlist::{Card, Gate, Kind, MAX_GATES};
+use reference::random::{self, Random, Shape, LIMITS, SHAPES};
+
+mod refusals;
 
 /// What a run of comparisons has seen.
 #[derive(Default)]
@@ -89,12 +91,7 @@ fn cards_of_every_shape() {
             let card = random::card(&mut random, shape, inputs, gates, outputs);
             compare_card(&mut seen, &mut random, &card, 3);
         }
-        for (inputs, gates) in [
-            (1, 0),
-            (1, MAX_GATES),
-            (MAX_INPUTS, 0),
-            (MAX_INPUTS, MAX_GATES),
-        ] {
+        for (inputs, gates) in LIMITS {
             let card = random::card(&mut random, shape, inputs, gates, 64);
             compare_card(&mut seen, &mut random, &card, 2);
         }
@@ -152,36 +149,25 @@ fn buffers_of_every_length() {
 
 #[test]
 fn change_numbers() {
-    let mut random = Random::new(54);
-    let mut compared = 0;
-    for count in [0, 1, 2, 300] {
-        let card = random::card(&mut random, Shape::Hubs, 9, 20, 2);
-        let (netlist, list) = random::files(&mut random, &card, count);
-        let past = [count, count + 1, count + 256, 65_536, 1 << 32, 1 << 63];
-        for change in past.into_iter().chain([usize::MAX]) {
-            // 18 comes before 20, so the length does not matter.
-            for length in [0, 1, 2, 50] {
-                assert_eq!(compare(&netlist, &list, change, length).0 .0, 18);
-                compared += 1;
-            }
-        }
-    }
-    println!("forward change numbers: {compared} calls compared");
+    refusals::past_the_list(
+        "forward",
+        54,
+        Shape::Hubs,
+        &[0, 1, 2, 50],
+        |netlist, list, change, length| compare(netlist, list, change, length).0 .0,
+    );
 }
 
 #[test]
 fn damaged_files() {
-    let mut random = Random::new(55);
-    let mut met = [0; 22];
-    for _ in 0..3000 {
-        let card = random::small_card(&mut random);
-        let (netlist, list) = random::damaged_files(&mut random, &card, 2);
-        let change = random.pick(&[0, 1, 2, usize::MAX]);
-        let length = random.pick(&[0, 1, 6, 70]);
-        met[compare(&netlist, &list, change, length).0 .0 as usize] += 1;
-    }
-    for number in (0..=18).chain([20]) {
-        assert!(met[number] > 0, "refusal {number} not met: {met:?}");
-    }
-    println!("forward damaged: 3000 calls compared, by number {met:?}");
+    let numbers = (0..=18).chain([20]);
+    refusals::all_met(
+        "forward",
+        55,
+        numbers,
+        |random, _, (netlist, list), change| {
+            let length = random.pick(&[0, 1, 6, 70]);
+            compare(netlist, list, change, length).0 .0
+        },
+    );
 }

@@ -3,8 +3,10 @@
 
 use differential::{found, right, same_filling};
 use reference::cases;
-use reference::netlist::{Card, MAX_GATES, MAX_INPUTS};
-use reference::random::{self, Random, SHAPES};
+use reference::netlist::Card;
+use reference::random::{self, Random, Shape, LIMITS, SHAPES};
+
+mod refusals;
 
 /// Compares answers and buffers; gives back the refusal number.
 fn compare(netlist: &[u8], list: &[u8], change: usize, length: usize) -> u32 {
@@ -47,12 +49,7 @@ fn cards_of_every_shape() {
             let card = random::card(&mut random, shape, inputs, gates, 3);
             compared += compare_card(&mut random, &card, 6);
         }
-        for (inputs, gates) in [
-            (1, 0),
-            (1, MAX_GATES),
-            (MAX_INPUTS, 0),
-            (MAX_INPUTS, MAX_GATES),
-        ] {
+        for (inputs, gates) in LIMITS {
             let card = random::card(&mut random, shape, inputs, gates, 64);
             compared += compare_card(&mut random, &card, 4);
         }
@@ -71,7 +68,7 @@ fn cards_of_every_shape() {
 #[test]
 fn longest_list() {
     let mut random = Random::new(32);
-    let card = random::card(&mut random, random::Shape::Mixed, 33, 50, 2);
+    let card = random::card(&mut random, Shape::Mixed, 33, 50, 2);
     let compared = compare_card(&mut random, &card, 1000);
     println!("full longest list: {compared} simulations compared");
 }
@@ -95,39 +92,21 @@ fn buffers_of_every_length() {
 
 #[test]
 fn change_numbers() {
-    let mut random = Random::new(34);
-    let mut compared = 0;
-    for count in [0, 1, 2, 300] {
-        let card = random::card(&mut random, random::Shape::Shared, 9, 20, 2);
-        let (netlist, list) = random::files(&mut random, &card, count);
-        let past = [count, count + 1, count + 256, 65_536, 1 << 32, 1 << 63];
-        let past = past.into_iter().chain([usize::MAX - 1, usize::MAX]);
-        for change in past {
-            // 18 comes before 20, so the length does not matter.
-            for length in [0, card.signals() - 1, card.signals(), 500] {
-                assert_eq!(compare(&netlist, &list, change, length), 18);
-                compared += 1;
-            }
-        }
-    }
-    println!("full change numbers: {compared} calls compared");
+    // a buffer of 9 + 20 bytes is enough
+    refusals::past_the_list("full", 34, Shape::Shared, &[0, 28, 29, 500], compare);
 }
 
 /// The list's refusals come first, whatever change and buffer are.
 #[test]
 fn damaged_files() {
-    let mut random = Random::new(35);
-    let (mut compared, mut refused) = (0, [0; 21]);
-    for _ in 0..3000 {
-        let card = random::small_card(&mut random);
-        let (netlist, list) = random::damaged_files(&mut random, &card, 2);
-        let change = random.pick(&[0, 1, 2, usize::MAX]);
-        let length = random.pick(&[0, card.signals(), 2400]);
-        refused[compare(&netlist, &list, change, length) as usize] += 1;
-        compared += 1;
-    }
-    for number in (1..=18).chain([20]) {
-        assert!(refused[number] > 0, "refusal {number} not met: {refused:?}");
-    }
-    println!("full damaged: {compared} calls compared, by number {refused:?}");
+    let numbers = (1..=18).chain([20]);
+    refusals::all_met(
+        "full",
+        35,
+        numbers,
+        |random, card, (netlist, list), change| {
+            let length = random.pick(&[0, card.signals(), 2400]);
+            compare(netlist, list, change, length)
+        },
+    );
 }

@@ -165,6 +165,14 @@ fn output_entries(random: &mut Random, signals: usize, count: usize) -> Vec<usiz
     outputs
 }
 
+/// Inputs and gates at document 01's limits.
+pub const LIMITS: [(usize, usize); 4] = [
+    (1, 0),
+    (1, MAX_GATES),
+    (MAX_INPUTS, 0),
+    (MAX_INPUTS, MAX_GATES),
+];
+
 /// A card of a shape with these counts, which are all within the limits.
 pub fn card(
     random: &mut Random,
