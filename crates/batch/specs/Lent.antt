@@ -38,7 +38,7 @@ widthFor Full signals outputs = signals
 widthFor Forward signals outputs = outputs
 widthFor Core signals outputs = outputs
 
--- its answer for any list, and what it leaves
+-- a method's answer for any list, and what it leaves
 pub record Answers (m : Method) (netlist list entry exit : List ℕ) (r : Judged) : Type 0 where
   pub answer : r ≡ allAnswer m netlist list entry
   pub bytes : exit ≡ allBuffer m netlist list entry
