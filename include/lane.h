@@ -18,7 +18,8 @@
  * - Buffer and answer overlap neither each other nor netlist and list.
  * - lane_core, lane_forward and their _all forms go as deep as the card does:
  *   have 1 MB of stack free.
- * Nothing is asked of the bytes themselves: each call checks them first.
+ * Nothing is asked of the bytes themselves: each call checks them first, and
+ * lane_step reads any bytes.
  *
  * What every call gives
  * ---------------------
@@ -92,6 +93,8 @@ enum lane_operation {
  *
  * Which call meets which:
  *     lane_netlist   1 to 10
+ *     lane_walk      1 to 10
+ *     lane_step      none
  *     lane_list      1 to 17
  *     lane_full      1 to 18, 20
  *     lane_forward   1 to 18, 20
@@ -259,6 +262,34 @@ uint32_t lane_core_all(const uint8_t *netlist, size_t netlist_len,
                        const uint8_t *list, size_t list_len,
                        uint8_t *buffer, size_t buffer_len,
                        uint64_t answer[5]);
+
+/*
+ * Opens a gate walk, which hands back the gate records of a netlist one after
+ * the other: checks the netlist, and stands before the first record.
+ *
+ * answer: [0] number of the next record, 0, [1] its place, 11, [2] records in
+ *         all, G
+ * Refusals 1 to 10.
+ */
+uint32_t lane_walk(const uint8_t *netlist, size_t netlist_len, uint64_t answer[5]);
+
+/*
+ * A step of a gate walk. It hands back the next record and moves on, or there is
+ * none and it stays: all records are handed back, or no whole record can be read
+ * at the place. A whole record is a kind, a pin count that suits it and that many
+ * pins, all inside the netlist.
+ *
+ *   number, place, count   where the walk stands and its records in all: what
+ *                          lane_walk gave, then what each step gave. Any other
+ *                          values may be asked for too
+ *
+ * answer: [0] length of the record, netlist[place .. place + length], 0 for none,
+ *         [1] number and [2] place after the step
+ * No refusals: the netlist is not checked.
+ */
+uint32_t lane_step(const uint8_t *netlist, size_t netlist_len,
+                   size_t number, size_t place, size_t count,
+                   uint64_t answer[5]);
 
 /*
  * The class of an AND or OR of two pins with classes a and b. Of the operation

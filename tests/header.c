@@ -52,6 +52,9 @@ int main(void)
     EXPECT(lane_full_all(CARD, BUFFER, answer), is(1, 7, 0, 0, 0) && CLASSES);
     EXPECT(lane_forward_all(CARD, BUFFER, answer), is(1, 1, 2, 4, 0) && HAZARD);
     EXPECT(lane_core_all(CARD, BUFFER, answer), is(1, 1, 4, 7, 0) && HAZARD);
+    EXPECT(lane_walk(NETLIST, answer), is(0, 11, 4, 0, 0));
+    EXPECT(lane_step(NETLIST, 1, 15, 4, answer), is(6, 2, 21, 0, 0));
+    EXPECT(lane_step(NETLIST, 4, 33, 4, answer), is(0, 4, 33, 0, 0));
     expect("no such change", lane_full(CARD, 1, BUFFER, answer) == LANE_NO_CHANGE);
     expect("no such output", lane_core(CARD, 0, 1, answer) == LANE_NO_OUTPUT);
     expect("buffer", lane_core_all(CARD, buffer, 0, answer) == LANE_BUFFER_SHORT);

@@ -38,8 +38,9 @@ static void load(struct bytes *bytes, const char *folder, const char *name)
 }
 
 /*
- * The loader's act: only an output that is clean in every change drives its
- * valve. The verdict of an output in a change is one byte, in the change's row.
+ * The loader's act: only an output that was judged and is clean in every change
+ * drives its valve. The verdict of an output in a change is one byte, in the
+ * change's row.
  */
 static enum status decide(const uint8_t *verdicts, size_t changes, size_t outputs)
 {
@@ -49,12 +50,15 @@ static enum status decide(const uint8_t *verdicts, size_t changes, size_t output
         size_t hazards = 0;
         for (size_t change = 0; change < changes; change++)
             hazards += verdicts[change * outputs + output] != LANE_CLEAN;
-        if (hazards == 0) {
+        if (changes > 0 && hazards == 0) {
             printf("output %zu released\n", output);
-        } else {
-            printf("output %zu held: hazard in %zu of %zu changes\n", output, hazards, changes);
-            status = HELD;
+            continue;
         }
+        status = HELD;
+        if (changes == 0)
+            printf("output %zu held: no change was judged\n", output);
+        else
+            printf("output %zu held: hazard in %zu of %zu changes\n", output, hazards, changes);
     }
     return status;
 }

@@ -9,24 +9,24 @@ use Rattle.changes.specs.Refusals.{listChecked}
 use Rattle.changes.proofs.Accepted.{listed}
 use Rattle.batch.specs.declared.Judged.{Judged}
 use Rattle.batch.specs.declared.Judged.the-variants.{Refused}
-use Rattle.batch.specs.Batch.{Method, judged, allAnswer, allBuffer}
-use Rattle.batch.specs.Lent.{Judges, Answers}
+use Rattle.batch.specs.Batch.{Method, allFrom, allAnswer, allBuffer, Answers}
+use Rattle.batch.specs.Lent.{Judges}
 use Rattle.batch.proofs.Rows.{Regular, rows-length}
 
 module _ (m : Method) (n l buffer : List ℕ) where
   pub refused-list : (number place : ℕ) → listChecked n l ≡ list.Refused number place → Answers m n l buffer buffer (Refused number place)
-  unfolding allAnswer allBuffer judged
+  unfolding allAnswer allBuffer allFrom
   refused-list number place e = record { answer = rw e; bytes = rw e }
 
   module _ {i g o p s t v w : ℕ} (e : listChecked n l ≡ list.Accepted i g o p s t v) (r : Regular m w) where
     pub refused-room : length buffer < t * w → Answers m n l buffer buffer (Refused 20 0)
-    unfolding allAnswer allBuffer judged
+    unfolding allAnswer allBuffer allFrom
     refused-room small =
         let short = lt-ltb (length buffer) (t * m .width) (rw (r .wide) at small) in
         record { answer = rw (e, short); bytes = rw (e, short) }
 
     pub done : t * w ≤ length buffer → (answer : Judged) (exit : List ℕ) → Judges m t buffer exit answer → Answers m n l buffer exit answer
-    unfolding allAnswer allBuffer judged
+    unfolding allAnswer allBuffer allFrom
     done room answer exit h =
         let enough = le-ltb (length buffer) (t * m .width) (rw (r .wide) at room) in
         record {

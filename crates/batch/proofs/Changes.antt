@@ -14,20 +14,24 @@ use Rattle.kung.specs.Sets.{bit, cleanSet}
 use Rattle.kung.specs.Tables.{tab, imageTable, wantedTable}
 use Rattle.circuit.specs.Circuit.{Card}
 use Rattle.words.specs.Words.{wordAt}
-use Rattle.netlist.specs.Netlist.{inputsOf, gatesOf, outputsOf, outputAt, placesOf, cardOf}
+use Rattle.netlist.specs.Netlist.{inputsOf, gatesOf, outputsOf, outputAt, cardOf}
+use Rattle.netlist.specs.Index.{placesOf}
 use Rattle.netlist.specs.Formed.{Formed}
 use Rattle.netlist.proofs.Accepted.{formed}
 use Rattle.changes.specs.declared.Listed.the-variants.{Accepted}
-use Rattle.changes.specs.Changes.{widthOf, inputClassAt, written}
+use Rattle.changes.specs.Changes.{widthOf, inputClassAt}
+use Rattle.changes.specs.Written.{written}
 use Rattle.changes.specs.Refusals.{listChecked}
 use Rattle.changes.proofs.Laws.{tab-length, written-all}
 use Rattle.changes.proofs.Accepted.{listed}
 use Rattle.simulate.proofs.Theorems.{codes-length}
 use Rattle.search.specs.Search.{Answer, search}
 use Rattle.search.specs.Pins.{sumBelow}
-use Rattle.visit.specs.Source.{sourceFrom, GatesOnly, inputsKnown}
+use Rattle.visit.specs.Source.{sourceFrom}
+use Rattle.visit.specs.Lent.{inputsKnown, GatesOnly}
 use Rattle.core.specs.Core.{searchOf}
-use Rattle.core.specs.Outputs.{verdictByte, searchFrom, byteFrom, sumFrom, OutputsReady}
+use Rattle.core.specs.Outputs.{verdictByte, searchFrom, byteFrom, sumFrom}
+use Rattle.core.specs.Lent.{OutputsReady}
 use Rattle.core.proofs.Cards.{ready, inputs-only}
 use Rattle.core.proofs.Entry.{known-length, search-is}
 use Rattle.core.proofs.Outputs.{search-few}

@@ -8,7 +8,8 @@ use mathlib.Core.List.{List, _++_, append-assoc, append-nil}
 use lib.ListN.{length, take, drop, length-append, length-drop, drop-of-length-le}
 use lib.Seq.{length-take-le, take-all, take-at, drop-at, drop-drop}
 use borrow.Rule.Slice.PartMut.{putMid}
-use Rattle.batch.specs.Batch.{rows, Method, rowed}
+use Rattle.batch.specs.Batch.{rows, Method}
+use Rattle.batch.specs.Lent.{rowed}
 
 -- each row of a method has w bytes
 pub record Regular (m : Method) (w : ℕ) : Type 0 where

@@ -1,5 +1,6 @@
 -- Every change of a list in one call: full simulation, the forward method and CORE for all changes, one after the other.
 use Prim.Native.Nat.{ℕ, zero, suc, _+_, _*_}
+use mathlib.Core.Path.{_≡_}
 use mathlib.Core.Bool.{cond}
 use mathlib.Core.List.{List, [], _++_}
 use lib.Dec.{ltb}
@@ -62,16 +63,12 @@ abbrev pub doneFor : Method → (T : ℕ) → Judged
 doneFor m T = Done T (m .width) (m .first T) (m .second T)
 
 -- The list's refusals, then 20 where the buffer has fewer bytes than the rows.
-unfoldable pub judged : Method → Listed → (room : ℕ) → Judged
-judged m (list.Refused number place) room = Refused number place
-judged m (list.Accepted inputs gates outputs pins entries changes width) room = cond (ltb room (changes * m .width)) (Refused 20 0) (doneFor m changes)
+unfoldable pub allFrom : Method → Listed → (room : ℕ) → Judged
+allFrom m (list.Refused number place) room = Refused number place
+allFrom m (list.Accepted inputs gates outputs pins entries changes width) room = cond (ltb room (changes * m .width)) (Refused 20 0) (doneFor m changes)
 
 unfoldable pub allAnswer : Method → (netlist list buffer : List ℕ) → Judged
-allAnswer m n l buffer = judged m (listChecked n l) (length buffer)
-
--- a buffer with the first T rows at its start
-abbrev pub rowed : Method → (T : ℕ) → (buffer : List ℕ) → List ℕ
-rowed m T buffer = rows (m .row) T ++ drop (T * m .width) buffer
+allAnswer m n l buffer = allFrom m (listChecked n l) (length buffer)
 
 -- the rows at the buffer's start, later bytes stay; a refused call leaves the buffer as it was
 abbrev pub left : Judged → (written buffer : List ℕ) → List ℕ
@@ -80,3 +77,8 @@ left (Refused number place) written buffer = buffer
 
 unfoldable pub allBuffer : Method → (netlist list buffer : List ℕ) → List ℕ
 allBuffer m n l buffer = left (allAnswer m n l buffer) (rows (m .row) (changesOf l)) buffer
+
+-- a call's answer, and what it leaves in the buffer
+pub record Answers (m : Method) (netlist list entry exit : List ℕ) (r : Judged) : Type 0 where
+  pub answer : r ≡ allAnswer m netlist list entry
+  pub bytes : exit ≡ allBuffer m netlist list entry

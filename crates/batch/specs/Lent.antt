@@ -1,14 +1,14 @@
--- What the code is lent and hands back.
+-- What the code inside is lent and hands back; no contract of a public call cites it.
 use Prim.Native.Nat.{ℕ, _*_, _≤_}
 use mathlib.Core.Path.{_≡_}
-use mathlib.Core.List.{List}
+use mathlib.Core.List.{List, _++_}
 use lib.ListN.{length, drop, replicate}
 use Rattle.changes.specs.declared.Listed.the-variants.{Accepted}
 use Rattle.changes.specs.Refusals.{listChecked}
 use Rattle.batch.specs.declared.Judged.{Judged}
 use Rattle.batch.specs.declared.Analysis.{Analysis}
 use Rattle.batch.specs.declared.Analysis.the-variants.{Full, Forward, Core}
-use Rattle.batch.specs.Batch.{Method, fullOf, forwardOf, coreOf, doneFor, rowed, allAnswer, allBuffer}
+use Rattle.batch.specs.Batch.{rows, Method, fullOf, forwardOf, coreOf, doneFor}
 
 -- an accepted list, and room for the rows of its changes
 pub record AllOf (m : Method) (netlist list : List ℕ) (inputs gates outputs entries width changes room : ℕ) : Type 0 where
@@ -21,6 +21,10 @@ pub record Room (known cells : List ℕ) (inputs : ℕ) : Type 0 where
   pub known-all : length known ≡ 2304
   pub none-known : drop inputs known ≡ drop inputs (replicate 2304 8)
   pub cells-all : length cells ≡ 2304
+
+-- a buffer with the first T rows at its start
+abbrev pub rowed : Method → (T : ℕ) → (buffer : List ℕ) → List ℕ
+rowed m T buffer = rows (m .row) T ++ drop (T * m .width) buffer
 
 -- a method's answer for the changes of an accepted list, and its rows
 pub record Judges (m : Method) (changes : ℕ) (entry exit : List ℕ) (r : Judged) : Type 0 where
@@ -37,8 +41,3 @@ abbrev pub widthFor : Analysis → (signals outputs : ℕ) → ℕ
 widthFor Full signals outputs = signals
 widthFor Forward signals outputs = outputs
 widthFor Core signals outputs = outputs
-
--- a method's answer for any list, and what it leaves
-pub record Answers (m : Method) (netlist list entry exit : List ℕ) (r : Judged) : Type 0 where
-  pub answer : r ≡ allAnswer m netlist list entry
-  pub bytes : exit ≡ allBuffer m netlist list entry

@@ -4,8 +4,8 @@ ghost use mathlib.Core.List.{_++_};
 ghost use lib.ListN.{length, drop};
 ghost use Rattle.kung.specs.Tables.{gateTable};
 ghost use Rattle.forward.specs.Lent.{Judgeable};
-ghost use Rattle.batch.specs.Batch.{coreBytes, coreSum, fullOf, forwardOf, coreOf};
-ghost use Rattle.batch.specs.Lent.{AllOf, Room, Judges, methodOf, widthFor, Answers};
+ghost use Rattle.batch.specs.Batch.{coreBytes, coreSum, fullOf, forwardOf, coreOf, Answers};
+ghost use Rattle.batch.specs.Lent.{AllOf, Room, Judges, methodOf, widthFor};
 use changes::Listed;
 use visit::Counts;
 

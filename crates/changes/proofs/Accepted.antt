@@ -5,7 +5,9 @@ use mathlib.Core.Path.{_≡_, refl, _∙_, ap}
 use mathlib.Core.Bool.{Bool, true, false}
 use mathlib.Core.List.{List}
 use borrow.Author.Tests.{eqb-true, not-false}
+use Rattle.words.specs.Refusal.{refuse}
 use Rattle.words.proofs.Laws.{within}
+use Rattle.words.proofs.Refusal as words
 use Rattle.netlist.specs.Netlist.{checked}
 use Rattle.netlist.specs.declared.Checked.{Checked}
 use Rattle.netlist.specs.declared.Checked.the-variants as netlist
@@ -13,7 +15,7 @@ use Rattle.netlist.proofs.Accepted.{formed}
 use Rattle.changes.specs.declared.Listed.{Listed}
 use Rattle.changes.specs.declared.Listed.the-variants.{Accepted, Refused}
 use Rattle.changes.specs.Changes.{changesOf, widthOf}
-use Rattle.changes.specs.Refusals.{refuse, spareAt, sparesFrom, afterNetlist, against, listChecked}
+use Rattle.changes.specs.Refusals.{spareAt, sparesFrom, afterNetlist, against, listChecked}
 use Rattle.changes.specs.Formed.{ListFormed}
 
 module _ (i g o p e t w : ℕ) where
@@ -21,10 +23,9 @@ module _ (i g o p e t w : ℕ) where
   Passed answer = answer ≡ Accepted i g o p e t w
 
   -- a chain of refusals that ends in acceptance was passed at each step
-  passed : (b : Bool) (number place : ℕ) (next : Listed) → Passed (refuse b number place next) → (b ≡ false) × Passed next
-  unfolding refuse
-  passed true number place next h = let z : _≡_ {A = ℕ} 0 1 = cc in absurd (omega arith)
-  passed false number place next h = (refl, h)
+  passed : (b : Bool) (number place : ℕ) (next : Listed) → Passed (refuse Refused b number place next) → (b ≡ false) × Passed next
+  passed b number place next =
+      words.passed Refused b number place next (Accepted i g o p e t w) (λ d. let z : _≡_ {A = ℕ} 0 1 = cc in absurd (omega arith))
 
   spares-passed : (n inputs : ℕ) (l : List ℕ) (at : ℕ) (next : Listed) → Passed (sparesFrom n inputs l at next) → Passed next
   unfolding sparesFrom spareAt

@@ -11,7 +11,8 @@ use lib.Dec.{eqb}
 use Rattle.kung.specs.Class.{code, inputClass}
 use Rattle.kung.specs.Tables.{tab}
 use Rattle.words.specs.Words.{byteAt}
-use Rattle.changes.specs.Changes.{sizeOf, bitAt, inputClassAt, codeAt, codeIn, written}
+use Rattle.changes.specs.Changes.{sizeOf, bitAt, inputClassAt}
+use Rattle.changes.specs.Written.{codeAt, codeIn, written}
 
 -- a change's place is a small number
 pub change-high : (width t : ℕ) → width ≤ 32 → t ≤ 1000 → t * sizeOf width ≤ 64000

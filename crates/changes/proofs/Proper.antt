@@ -8,7 +8,9 @@ use mathlib.Core.List.{List, [], _∷_}
 use borrow.Author.Tests.{le-ltb, ltb-false, eqb-true, not-false}
 use Rattle.circuit.specs.Circuit.{Each}
 use Rattle.words.specs.Words.{tieOf}
+use Rattle.words.specs.Refusal.{refuse}
 use Rattle.words.proofs.Laws.{within}
+use Rattle.words.proofs.Refusal.{pass}
 use Rattle.netlist.specs.declared.Checked.{Checked}
 use Rattle.netlist.specs.declared.Checked.the-variants as netlist
 use Rattle.netlist.specs.Netlist.{inputsOf, accepted}
@@ -17,9 +19,9 @@ use Rattle.netlist.proofs.Proper.{proper→accepted, accepted→proper, Unmet, 
 use Rattle.changes.specs.declared.Listed.{Listed}
 use Rattle.changes.specs.declared.Listed.the-variants.{Accepted, Refused}
 use Rattle.changes.specs.Changes.{changesOf, widthOf, sizeOf, Vector, first, second, vectorAt}
-use Rattle.changes.specs.Refusals.{refuse, spareAt, sparesFrom, afterNetlist, against, listChecked}
+use Rattle.changes.specs.Refusals.{spareAt, sparesFrom, afterNetlist, against, listChecked}
 use Rattle.changes.specs.Proper.{sparesAt, ProperList, listAccepted, spareConditions, ownConditions, listConditions}
-use Rattle.changes.proofs.Refusals.{pass, list-pass}
+use Rattle.changes.proofs.Refusals.{list-pass}
 use Rattle.changes.proofs.Accepted.{listed}
 
 -- the two vectors of a change have no spare bit
@@ -35,8 +37,8 @@ unfolding sparesFrom spareAt
 spares-proper zero inputs l at next h = refl
 spares-proper (suc n) inputs l at next h =
     let v : NoSpare inputs l at = rw (zero-mul, add-zero) at (h 0 (omega arith)) in
-    pass _ _ _ _ (le-ltb 0 (sparesAt inputs l at) (omega (arith, v .0)))
-    ∙ pass _ _ _ _ (le-ltb 0 (sparesAt inputs l (at + widthOf inputs)) (omega (arith, v .1)))
+    pass _ _ _ _ _ (le-ltb 0 (sparesAt inputs l at) (omega (arith, v .0)))
+    ∙ pass _ _ _ _ _ (le-ltb 0 (sparesAt inputs l (at + widthOf inputs)) (omega (arith, v .1)))
     ∙ spares-proper n inputs l _ next (λ t j. rw (next-change at t (sizeOf (widthOf inputs))) at (h (suc t) (omega arith)))
 
 pub proper→listed : (n l : List ℕ) → ProperList n l → listChecked n l ≡ listAccepted n l

@@ -11,28 +11,22 @@ use Rattle.words.specs.Words.{byteAt, wordAt, longAt, marked, outside, tieOf}
 use Rattle.words.proofs.Laws.{outside-above, inside}
 use Rattle.netlist.specs.Netlist.{checked}
 use Rattle.netlist.specs.declared.Checked.the-variants as netlist
+use Rattle.words.specs.Refusal.{refuse}
+use Rattle.words.proofs.Refusal.{stop, pass}
 use Rattle.changes.specs.declared.Listed.{Listed}
 use Rattle.changes.specs.declared.Listed.the-variants.{Accepted, Refused}
 use Rattle.changes.specs.Changes.{changesOf, widthOf, sizeOf}
-use Rattle.changes.specs.Refusals.{refuse, lastPlace, lastInputs, spareBits, spareAt, sparesFrom, afterNetlist, against, listChecked}
-
-pub stop : (b : Bool) (number place : ℕ) (next : Listed) → b ≡ true → refuse b number place next ≡ Refused number place
-unfolding refuse
-stop b number place next e = rw e
-
-pub pass : (b : Bool) (number place : ℕ) (next : Listed) → b ≡ false → refuse b number place next ≡ next
-unfolding refuse
-pass b number place next e = rw e
+use Rattle.changes.specs.Refusals.{lastPlace, lastInputs, spareBits, spareAt, sparesFrom, afterNetlist, against, listChecked}
 
 -- a vector by the bits that its last byte has above the inputs'
 module _ (inputs : ℕ) (l : List ℕ) (at : ℕ) (next : Listed) (bits : ℕ) (e : bits ≡ byteAt l (lastPlace inputs at) / 2 ^ lastInputs inputs) where
   pub spare-stop : 0 < bits → spareAt inputs l at next ≡ Refused 17 (lastPlace inputs at)
   unfolding spareAt spareBits
-  spare-stop h = stop _ _ _ _ (lt-ltb 0 (spareBits inputs (byteAt l (lastPlace inputs at))) (omega arith))
+  spare-stop h = stop _ _ _ _ _ (lt-ltb 0 (spareBits inputs (byteAt l (lastPlace inputs at))) (omega arith))
 
   pub spare-pass : bits ≤ 0 → spareAt inputs l at next ≡ next
   unfolding spareAt spareBits
-  spare-pass h = pass _ _ _ _ (le-ltb 0 (spareBits inputs (byteAt l (lastPlace inputs at))) (omega arith))
+  spare-pass h = pass _ _ _ _ _ (le-ltb 0 (spareBits inputs (byteAt l (lastPlace inputs at))) (omega arith))
 
 -- the changes from t on begin with two vectors
 pub spares-split : (n inputs : ℕ) (l : List ℕ) (at : ℕ) (next : Listed) (t : ℕ) → t < n
@@ -71,25 +65,25 @@ module _ (version most inputs tie : ℕ) (l : List ℕ) (next : Listed) where
   -- then, with the count as the code has read it
   module _ (o : Opened version tie l) (changes : ℕ) (count : changes ≡ changesOf l) where
     opened : afterNetlist version most inputs tie l next
-        ≡ refuse (outside 0 most changes) 15 9
-        (refuse (not (eqb (length l) (11 + changes * sizeOf (widthOf inputs)))) 16 (length l) (sparesFrom changes inputs l 11 next))
+        ≡ refuse Refused (outside 0 most changes) 15 9
+        (refuse Refused (not (eqb (length l) (11 + changes * sizeOf (widthOf inputs)))) 16 (length l) (sparesFrom changes inputs l 11 next))
     unfolding afterNetlist
     opened =
         rw count
-        (pass _ _ _ _ (le-ltb (length l) 11 (o .0))
-        ∙ pass _ _ _ _ (ap not (o .1))
-        ∙ pass _ _ _ _ (ap not (eq-eqb (wordAt l 3) version (o .2)))
-        ∙ pass _ _ _ _ (ap not (eq-eqb (longAt l 5) tie (o .3))))
+        (pass _ _ _ _ _ (le-ltb (length l) 11 (o .0))
+        ∙ pass _ _ _ _ _ (ap not (o .1))
+        ∙ pass _ _ _ _ _ (ap not (eq-eqb (wordAt l 3) version (o .2)))
+        ∙ pass _ _ _ _ _ (ap not (eq-eqb (longAt l 5) tie (o .3))))
 
     pub list-many : most < changes → afterNetlist version most inputs tie l next ≡ Refused 15 9
-    list-many h = opened ∙ stop _ _ _ _ (outside-above 0 most changes (omega arith) ∙ lt-ltb most changes h)
+    list-many h = opened ∙ stop _ _ _ _ _ (outside-above 0 most changes (omega arith) ∙ lt-ltb most changes h)
 
     module _ (few : changes ≤ most) where
       pub list-length : (length l ≡ 11 + changes * sizeOf (widthOf inputs) → ⊥) → afterNetlist version most inputs tie l next ≡ Refused 16 (length l)
-      list-length h = opened ∙ pass _ _ _ _ (inside 0 most changes (omega arith) few) ∙ stop _ _ _ _ (ap not (ne-eqb _ _ h))
+      list-length h = opened ∙ pass _ _ _ _ _ (inside 0 most changes (omega arith) few) ∙ stop _ _ _ _ _ (ap not (ne-eqb _ _ h))
 
       pub list-pass : length l ≡ 11 + changes * sizeOf (widthOf inputs) → afterNetlist version most inputs tie l next ≡ sparesFrom changes inputs l 11 next
-      list-pass e = opened ∙ pass _ _ _ _ (inside 0 most changes (omega arith) few) ∙ pass _ _ _ _ (ap not (eq-eqb _ _ e))
+      list-pass e = opened ∙ pass _ _ _ _ _ (inside 0 most changes (omega arith) few) ∙ pass _ _ _ _ _ (ap not (eq-eqb _ _ e))
 
 -- by what the check of the netlist answered
 module _ (n l : List ℕ) where

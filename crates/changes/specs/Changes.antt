@@ -1,11 +1,9 @@
 -- Document 01, "The change list": what the bytes say.
 use Prim.Native.Nat.{ℕ, _+_, _*_, _/_, _%_, _^_}
 use mathlib.Core.Bool.{Bool}
-use mathlib.Core.List.{List, _++_}
+use mathlib.Core.List.{List}
 use lib.Dec.{eqb}
-use lib.ListN.{take, drop}
-use Rattle.kung.specs.Class.{Class, c0, code, inputClass}
-use Rattle.kung.specs.Tables.{tab}
+use Rattle.kung.specs.Class.{Class, c0, inputClass}
 use Rattle.circuit.specs.Circuit.{Source, sources}
 use Rattle.words.specs.Words.{byteAt, wordAt}
 use Rattle.netlist.specs.Netlist.{inputsOf, cardOf}
@@ -42,21 +40,6 @@ bitOf l width t which i = bitAt l (vectorAt width t which) i
 -- "An input is 0, 1, R or F by its two bits."
 unfoldable pub inputClassAt : List ℕ → (width t i : ℕ) → Class
 inputClassAt l width t i = inputClass (bitOf l width t first i) (bitOf l width t second i)
-
--- an input's code, and those of the first n inputs
-abbrev pub codeAt : List ℕ → (width t i : ℕ) → ℕ
-codeAt l width t i = code (inputClassAt l width t i)
-
-abbrev pub inputCodes : List ℕ → (width t n : ℕ) → List ℕ
-inputCodes l width t n = tab (codeAt l width t) 0 n
-
--- the code of the class of the input that has bit k of two bytes
-abbrev pub codeIn : (a b k : ℕ) → ℕ
-codeIn a b k = code (inputClass (bitIn a k) (bitIn b k))
-
--- a buffer where f 0, f 1, .., n numbers, are written from a place on
-unfoldable pub written : List ℕ → (at : ℕ) → (f : ℕ → ℕ) → (n : ℕ) → List ℕ
-written old at f n = take at old ++ (tab f 0 n ++ drop (at + n) old)
 
 -- the sources of a netlist's signals in change t: an input's class, or a gate
 unfoldable pub sourcesOf : (netlist list : List ℕ) → (t : ℕ) → ℕ → Source Class

@@ -1,20 +1,17 @@
 -- Document 01, "Turned back, by operation": when a change list is refused.
 use Prim.Native.Nat.{ℕ, zero, suc, _+_, _-_, _*_, _/_, _^_}
-use mathlib.Core.Bool.{Bool, cond, not}
+use mathlib.Core.Bool.{not}
 use mathlib.Core.List.{List}
 use lib.Dec.{eqb, ltb}
 use lib.ListN.{length}
 use Rattle.words.specs.Words.{byteAt, wordAt, longAt, marked, outside, tieOf}
+use Rattle.words.specs.Refusal.{refuse}
 use Rattle.netlist.specs.Netlist.{checked}
 use Rattle.netlist.specs.declared.Checked.{Checked}
 use Rattle.netlist.specs.declared.Checked.the-variants as netlist
 use Rattle.changes.specs.declared.Listed.{Listed}
 use Rattle.changes.specs.declared.Listed.the-variants.{Accepted, Refused}
 use Rattle.changes.specs.Changes.{changesOf, widthOf, sizeOf}
-
--- "A refusal is a number and a byte place. In the order below, the first condition met is the refusal; where none is met there is none."
-unfoldable pub refuse : Bool → (number place : ℕ) → Listed → Listed
-refuse test number place next = cond test (Refused number place) next
 
 -- "Spare bits are zero." They stand in a vector's last byte, above the bits of the inputs that it holds, which are eight, and leave none
 -- spare, where I is a multiple of 8.
@@ -29,7 +26,7 @@ spareBits inputs byte = byte / 2 ^ lastInputs inputs
 
 -- the vector at a place
 unfoldable pub spareAt : (inputs : ℕ) → List ℕ → (at : ℕ) → Listed → Listed
-spareAt inputs l at next = refuse (ltb 0 (spareBits inputs (byteAt l (lastPlace inputs at)))) 17 (lastPlace inputs at) next
+spareAt inputs l at next = refuse Refused (ltb 0 (spareBits inputs (byteAt l (lastPlace inputs at)))) 17 (lastPlace inputs at) next
 
 -- the n changes from a place on
 unfoldable pub sparesFrom : (n inputs : ℕ) → List ℕ → (at : ℕ) → Listed → Listed
@@ -43,12 +40,12 @@ sparesFrom (suc n) inputs l at next =
 -- (length); first byte with a spare bit 17 (it)."
 unfoldable pub afterNetlist : (version most inputs tie : ℕ) → List ℕ → Listed → Listed
 afterNetlist version most inputs tie l next =
-    refuse (ltb (length l) 11) 11 (length l)
-    (refuse (not (marked l 0x4C 0x43 0x54)) 12 0
-    (refuse (not (eqb (wordAt l 3) version)) 13 3
-    (refuse (not (eqb (longAt l 5) tie)) 14 5
-    (refuse (outside 0 most (changesOf l)) 15 9
-    (refuse (not (eqb (length l) (11 + changesOf l * sizeOf (widthOf inputs)))) 16 (length l)
+    refuse Refused (ltb (length l) 11) 11 (length l)
+    (refuse Refused (not (marked l 0x4C 0x43 0x54)) 12 0
+    (refuse Refused (not (eqb (wordAt l 3) version)) 13 3
+    (refuse Refused (not (eqb (longAt l 5) tie)) 14 5
+    (refuse Refused (outside 0 most (changesOf l)) 15 9
+    (refuse Refused (not (eqb (length l) (11 + changesOf l * sizeOf (widthOf inputs)))) 16 (length l)
     (sparesFrom (changesOf l) inputs l 11
     next))))))
 

@@ -3,9 +3,9 @@ ghost use mathlib.Core.Path.{_≡_};
 ghost use mathlib.Core.List.{_++_};
 ghost use Prim.Native.Nat.{_+_, _*_, _/_, _^_, _≤_, _<_};
 ghost use lib.ListN.{length, drop};
-ghost use Rattle.kung.specs.Class.{code};
 ghost use Rattle.words.specs.Words.{byteAt};
-ghost use Rattle.changes.specs.Changes.{widthOf, sizeOf, inputClassAt, inputCodes, codeIn, written};
+ghost use Rattle.changes.specs.Changes.{widthOf, sizeOf};
+ghost use Rattle.changes.specs.Written.{inputCodes, codeIn, written};
 ghost use Rattle.changes.specs.Refusals.{sparesFrom, afterNetlist, listChecked};
 use netlist::Checked;
 use words::byte_at;
@@ -125,20 +125,6 @@ fn class_of_bits(first: u8, second: u8, k: usize) -> u8
     let start = (first >> k) % 2;
     let end = (second >> k) % 2;
     start + 2 * (start ^ end)
-}
-
-// The class of input i in change t; bytes past the end are 0.
-pub fn class_of_input(list: &[u8], width: usize, t: usize, i: usize) -> u8
-    requires { ⌜ (width ≤ 32) × (t ≤ 1000) ⌝ }
-    ensures { λ r. ⌜ r ≡ code (inputClassAt (now (list .entry)) width t i) ⌝ }
-{
-    let first = 11 + t * (2 * width);
-    let second = first + width;
-    class_of_bits(
-        byte_at(list, first + i / 8),
-        byte_at(list, second + i / 8),
-        i % 8,
-    )
 }
 
 // Writes the classes of the first `count` inputs of two bytes from a place on.

@@ -16,14 +16,16 @@ use Rattle.kung.proofs.Listed.{getD-tab}
 use Rattle.circuit.specs.Circuit.{Source, given, gate, pinsOf, Each, Falling, WellFormed, sources}
 use Rattle.circuit.proofs.Laws.{sources-cases}
 use Rattle.words.proofs.Laws.{words-length}
-use Rattle.netlist.specs.Netlist.{inputsOf, gatesOf, countAt, placeOf, placesOf, pinsBelow, pinTotal, gateKind, gatePins, cardOf}
+use Rattle.netlist.specs.Netlist.{inputsOf, gatesOf, countAt, placeOf, pinsBelow, pinTotal, gateKind, gatePins, cardOf}
+use Rattle.netlist.specs.Index.{placesOf}
 use Rattle.netlist.specs.Formed.{Formed}
 use Rattle.netlist.proofs.Laws.{places-length, places-at}
 use Rattle.search.specs.Search.{search}
 use Rattle.search.specs.Pins.{sumBelow, pinsIn}
 use Rattle.search.proofs.Writes.{closed-all}
 use Rattle.search.proofs.Counts.{search-pins}
-use Rattle.visit.specs.Source.{kindFrom, pinsFrom, sourceFrom, GatesOnly, inputsKnown, Ready}
+use Rattle.visit.specs.Source.{kindFrom, pinsFrom, sourceFrom}
+use Rattle.visit.specs.Lent.{inputsKnown, GatesOnly, SearchReady}
 use Rattle.visit.proofs.Codes.{code-small}
 use Rattle.visit.proofs.Sources.{source-given, source-gate}
 
@@ -127,7 +129,7 @@ module _ (netlist : List ℕ) (v : ℕ → Class) where
 -- what an accepted netlist gives a search, with the index of its places
 pub ready : {images wanteds known : List ℕ} {inputs gates outputs pins entries : ℕ} (netlist places rest : List ℕ)
     → images ≡ imageTable → wanteds ≡ wantedTable → Formed netlist inputs gates outputs pins entries → places ≡ placesOf netlist gates ++ rest
-    → GatesOnly netlist known → Ready images wanteds netlist places known inputs
+    → GatesOnly netlist known → SearchReady images wanteds netlist places known inputs
 ready {images} {wanteds} {known} {inputs} {gates} netlist places rest i w formed index only =
     record {
       images-are = i;

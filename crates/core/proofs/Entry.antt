@@ -9,20 +9,25 @@ use lib.Seq.{take-append-add}
 use Rattle.kung.specs.Class.{Class, code}
 use Rattle.kung.specs.Sets.{cleanSet, setOf}
 use Rattle.kung.specs.Tables.{tab}
+use Rattle.words.specs.Refusal.{refuse}
 use Rattle.netlist.specs.Netlist.{inputsOf, gatesOf, outputAt, cardOf}
 use Rattle.netlist.specs.Formed.{Formed}
 use Rattle.netlist.proofs.Accepted.{formed}
 use Rattle.changes.specs.declared.Listed.the-variants as list
-use Rattle.changes.specs.Changes.{widthOf, inputClassAt, inputCodes, codeAt, sourcesOf}
+use Rattle.changes.specs.Changes.{widthOf, inputClassAt, sourcesOf}
+use Rattle.changes.specs.Written.{inputCodes, codeAt}
 use Rattle.changes.specs.Refusals.{listChecked}
 use Rattle.changes.proofs.Laws.{tab-length}
 use Rattle.changes.proofs.Accepted.{listed}
 use Rattle.search.specs.Search.{clean, hazardous, Verdict, Answer, search}
 use Rattle.core.specs.declared.Cored.{Cored}
 use Rattle.core.specs.declared.Cored.the-variants.{Clean, Hazardous, Refused}
-use Rattle.visit.specs.Source.{sourceFrom, inputsKnown}
+use Rattle.visit.specs.Source.{sourceFrom}
 use Rattle.visit.specs.Found.{foundOf}
-use Rattle.core.specs.Core.{searchOf, guarded, guardedFound, Searchable, judgedBy, coreAnswer}
+use Rattle.visit.specs.Lent.{inputsKnown}
+use Rattle.core.specs.Core.{searchOf, guarded, coreFrom, coreAnswer}
+use Rattle.core.specs.Codes.{guardedFound}
+use Rattle.core.specs.Lent.{Searchable}
 use Rattle.core.proofs.Cards.{sources-known}
 
 drop-replicate : (i m a : ℕ) → drop i (replicate m a) ≡ replicate (m - i) a
@@ -61,7 +66,7 @@ unfolding setOf
 clean-set = refl
 
 pub guard-is : (most : ℕ) (answer : Answer) → guardedFound most (foundOf answer) ≡ guarded most answer
-unfolding guarded guardedFound
+unfolding guarded guardedFound refuse
 guard-is most answer = go (answer .verdict)
   where
     go : (v : Verdict) → guardedFound most (foundOf (record { verdict = v; gates = answer .gates; pins = answer .pins }))
@@ -71,21 +76,21 @@ guard-is most answer = go (answer .verdict)
 
 module _ (n l : List ℕ) (change output : ℕ) where
   pub refused-list : (number place : ℕ) → listChecked n l ≡ list.Refused number place → Refused number place ≡ coreAnswer n l change output
-  unfolding coreAnswer judgedBy
+  unfolding coreAnswer coreFrom refuse
   refused-list number place e = rw e
 
   module _ {i g o p s t w : ℕ} (e : listChecked n l ≡ list.Accepted i g o p s t w) where
     pub refused-change : t ≤ change → Refused 18 0 ≡ coreAnswer n l change output
-    unfolding coreAnswer judgedBy
+    unfolding coreAnswer coreFrom refuse
     refused-change late = rw (e, le-leb t change late)
 
     module _ (early : change < t) where
       pub refused-output : o ≤ output → Refused 19 0 ≡ coreAnswer n l change output
-      unfolding coreAnswer judgedBy
+      unfolding coreAnswer coreFrom refuse
       refused-output none = rw (e, lt-leb t change early, le-leb o output none)
 
       pub answers : output < o → guarded p (searchOf n l change output) ≡ coreAnswer n l change output
-      unfolding coreAnswer judgedBy
+      unfolding coreAnswer coreFrom refuse
       answers is = rw (e, lt-leb t change early, lt-leb o output is)
 
       -- the output's signal can be searched

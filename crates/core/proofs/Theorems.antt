@@ -9,6 +9,7 @@ use Rattle.kung.specs.Rule.{gateClass}
 use Rattle.kung.specs.Sets.{cleanSet}
 use Rattle.circuit.specs.Circuit.{value, Falling}
 use Rattle.circuit.proofs.Laws.{sources-falling}
+use Rattle.words.specs.Refusal.{refuse}
 use Rattle.netlist.specs.Netlist.{inputsOf, outputAt, cardOf}
 use Rattle.netlist.proofs.Accepted.{formed}
 use Rattle.changes.specs.declared.Listed.the-variants as list
@@ -19,7 +20,8 @@ use Rattle.search.specs.Search.{judged}
 use Rattle.search.specs.Search
 use Rattle.search.proofs.Right.{search-right}
 use Rattle.search.proofs.Counts.{search-gates}
-use Rattle.visit.specs.Source.{sourceFrom, inputsKnown}
+use Rattle.visit.specs.Source.{sourceFrom}
+use Rattle.visit.specs.Lent.{inputsKnown}
 use Rattle.core.specs.Core.{answered, guarded, searchOf, coreAnswer}
 use Rattle.core.proofs.Cards.{inputs-only, search-within}
 use Rattle.core.proofs.Entry.{search-is, answers}
@@ -50,7 +52,7 @@ module _ {i g o p s t w : ℕ} (n l : List ℕ) (accepted : listChecked n l ≡ 
       → coreAnswer n l change output
       ≡ answered (judged cleanSet (value gateClass c0 (sourcesOf n l change) (outputAt n output))) (searchOf n l change output .gates)
       (searchOf n l change output .pins)
-  unfolding searchOf guarded
+  unfolding searchOf guarded refuse
   core-right early is =
       sym (answers n l change output accepted early is)
       ∙ rw (le-ltb p (searchOf n l change output .pins) pins-within)

@@ -1,2 +1,4 @@
 pub mod Core
 pub mod Outputs
+pub mod Codes
+pub mod Lent

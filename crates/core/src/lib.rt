@@ -3,11 +3,14 @@ ghost use mathlib.Core.Path.{_≡_};
 ghost use Prim.Native.Nat.{_≤_};
 ghost use lib.ListN.{length};
 ghost use Rattle.kung.specs.Sets.{cleanSet};
-ghost use Rattle.changes.specs.Changes.{sourcesOf, written};
+ghost use Rattle.changes.specs.Changes.{sourcesOf};
+ghost use Rattle.changes.specs.Written.{written};
 ghost use Rattle.search.specs.Search.{search};
 ghost use Rattle.visit.specs.Found.{foundOf};
-ghost use Rattle.core.specs.Core.{Room, Searchable, guardedFound, coreAnswer};
-ghost use Rattle.core.specs.Outputs.{byteOf, byteFrom, sumFrom, OutputsReady};
+ghost use Rattle.core.specs.Core.{coreAnswer};
+ghost use Rattle.core.specs.Outputs.{byteFrom, sumFrom, cellsFrom};
+ghost use Rattle.core.specs.Codes.{guardedFound, foundByte};
+ghost use Rattle.core.specs.Lent.{SearchRoom, Searchable, OutputsReady};
 use changes::Listed;
 use visit::Counts;
 use visit::Found;
@@ -19,7 +22,7 @@ pub const CLEAN_SET: u8 = 15;
 
 // An output's byte.
 fn byte_of(verdict: Verdict) -> u8
-    ensures { λ r. ⌜ r ≡ byteOf verdict ⌝ }
+    ensures { λ r. ⌜ r ≡ foundByte verdict ⌝ }
 {
     match verdict {
         Verdict::Clean { class: _ } => 0,
@@ -27,7 +30,7 @@ fn byte_of(verdict: Verdict) -> u8
     }
 }
 
-// Searches each output afresh and writes its byte; returns the gates visited and pins taken in all searches. The cells are lent room, as for `find`.
+// Searches each output afresh in the lent cells and writes its byte; returns the gates visited and pins taken in all searches.
 pub fn search_outputs(
     images: &[u8; 4096],
     wanteds: &[u8; 576],
@@ -42,7 +45,10 @@ pub fn search_outputs(
 ) -> Counts
     requires { ⌜ OutputsReady (now images) (now wanteds) (now netlist) (now places) (now known) inputs outputs entries (length (now buffer)) ⌝ }
     requires { ⌜ length (now known) ≤ length (now cells) ⌝ }
-    ensures { λ r. ⌜ (r .gates ≡ sumFrom (λ a. a .gates) (now (netlist .entry)) (now (known .entry)) entries outputs) × (r .pins ≡ sumFrom (λ a. a .pins) (now (netlist .entry)) (now (known .entry)) entries outputs) × (now (buffer .exit) ≡ written (now (buffer .entry)) 0 (byteFrom (now (netlist .entry)) (now (known .entry)) entries) outputs) ⌝ }
+    ensures gates { λ r. ⌜ r .gates ≡ sumFrom (λ a. a .gates) (now (netlist .entry)) (now (known .entry)) entries outputs ⌝ }
+    ensures pins { λ r. ⌜ r .pins ≡ sumFrom (λ a. a .pins) (now (netlist .entry)) (now (known .entry)) entries outputs ⌝ }
+    ensures bytes { λ r. ⌜ now (buffer .exit) ≡ written (now (buffer .entry)) 0 (byteFrom (now (netlist .entry)) (now (known .entry)) entries) outputs ⌝ }
+    ensures cells { λ r. ⌜ now (cells .exit) ≡ cellsFrom (now (netlist .entry)) (now (known .entry)) entries outputs (now (cells .entry)) ⌝ }
 {
     let mut gates: usize = 0;
     let mut pins: usize = 0;
@@ -94,7 +100,7 @@ fn search_in(
     change: usize,
     s: usize,
 ) -> Found
-    requires { ⌜ Room (now places) (now known) (now cells) inputs gates ⌝ }
+    requires { ⌜ SearchRoom (now places) (now known) (now cells) inputs gates ⌝ }
     requires { ⌜ Searchable (now netlist) inputs gates width change s ⌝ }
     ensures { λ r. ⌜ r ≡ foundOf (search (sourcesOf (now (netlist .entry)) (now (list .entry)) change) cleanSet s) ⌝ }
 {

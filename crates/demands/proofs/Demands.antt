@@ -1,13 +1,14 @@
 -- The three demands hold. Assumes nothing.
 use Prim.Native.Nat.{ℕ, _+_, _≤_, _<_}
 use native.Mathlib.Omega.{arith}
-use mathlib.Core.Path.{_≡_, refl, sym, _∙_, ap, ap₂, subst}
+use mathlib.Core.Path.{_≡_, refl, sym, _∙_, ap₂, subst}
 use mathlib.Core.Logic.{_↔_}
 use mathlib.Core.Bool.{Bool, true, false}
 use mathlib.Core.List.{List}
 use borrow.Author.Tests.{leb-true, le-leb, lt-leb, ltb-true, lt-ltb, le-ltb}
 use lib.Dec.{leb, ltb}
 use lib.ListN.{length}
+use Rattle.words.specs.Refusal.{refuse}
 use Rattle.netlist.specs.Netlist.{inputsOf, gatesOf, outputsOf, outputAt, cardOf, accepted}
 use Rattle.netlist.proofs.Accepted.{formed}
 use Rattle.netlist.proofs.Proper.{first-refusal, accepted→proper, proper→accepted}
@@ -18,32 +19,32 @@ use Rattle.changes.specs.Proper.{listAccepted}
 use Rattle.changes.proofs.Accepted.{listed}
 use Rattle.changes.proofs.Proper.{first-list-refusal, listed→proper, proper→listed}
 use Rattle.simulate.specs.Full as full
-use Rattle.simulate.specs.Full.{classIn, codes, fullAnswer, fullBuffer}
+use Rattle.simulate.specs.Full.{classIn, fullAnswer, fullBuffer}
 use Rattle.simulate.specs.declared.Simulated.the-variants as simulated
 use Rattle.search.specs.Search.{Verdict, clean, hazardous}
-use Rattle.core.specs.Core.{answered, guarded, searchOf, judgedBy, coreAnswer}
+use Rattle.core.specs.Core.{answered, guarded, searchOf, coreFrom, coreAnswer}
 use Rattle.core.specs.declared.Cored.{Cored}
 use Rattle.core.specs.declared.Cored.the-variants as cored
 use Rattle.core.proofs.Theorems.{pins-within}
 use Rattle.forward.specs.Forward as forward
-use Rattle.forward.specs.Forward.{touchedIn, visitedIn, forwardBytes, forwardAnswer, forwardBuffer}
+use Rattle.forward.specs.Forward.{touchedIn, visitedIn, forwardAnswer, forwardBuffer}
 use Rattle.forward.specs.declared.Forwarded.the-variants as forwarded
-use Rattle.bench.specs.Bench.{Event}
 use Rattle.bench.specs.Claim.{Claim}
 use Rattle.bench.proofs.Theorem.{holds}
-use Rattle.demands.specs.Demands.{ListAccepted, Accepted, FirstMet, firstVector, secondVector, Method, Calls, Demand1, Demand2, ShowsAll, Demand3}
+use Rattle.demands.specs.Demands.{ListAccepted, Accepted, firstVector, secondVector, Reading, Operations, ShowsAll, Demand3, Demands}
 use Rattle.demands.proofs.Refusals.{chain, Cases, cases, form}
+use Rattle.demands.proofs.Walks.{opening, step}
 use Rattle.demands.proofs.Verdicts.{output-below, demand2}
 
 -- each operation's answer is a chain of refusals
-full-chain : (change room : ℕ) (x : Listed) → chain simulated.Refused simulated.Done (λ i g o. ltb room (i + g)) 20 change x ≡ full.judged x change room
-unfolding full.judged
+full-chain : (change room : ℕ) (x : Listed) → chain simulated.Refused simulated.Done (λ i g o. ltb room (i + g)) 20 change x ≡ full.fullFrom x change room
+unfolding full.fullFrom refuse
 full-chain change room (list.Refused number place) = refl
 full-chain change room (list.Accepted i g o p s t w) = refl
 
 forward-chain : (change room touched visited : ℕ) (x : Listed)
-    → chain forwarded.Refused (forwarded.Done touched visited) (λ i g o. ltb room o) 20 change x ≡ forward.judged x change room (forwarded.Done touched visited)
-unfolding forward.judged
+    → chain forwarded.Refused (forwarded.Done touched visited) (λ i g o. ltb room o) 20 change x ≡ forward.forwardFrom x change room (forwarded.Done touched visited)
+unfolding forward.forwardFrom refuse
 forward-chain change room touched visited (list.Refused number place) = refl
 forward-chain change room touched visited (list.Accepted i g o p s t w) = refl
 
@@ -52,8 +53,8 @@ module _ (n l : List ℕ) (change output : ℕ) where
   found = answered (searchOf n l change output .verdict) (searchOf n l change output .gates) (searchOf n l change output .pins)
 
   core-chain : (x : Listed) → listChecked n l ≡ x
-      → chain cored.Refused found (λ i g o. leb o output) 19 change x ≡ judgedBy x change output (searchOf n l change output)
-  unfolding judgedBy guarded
+      → chain cored.Refused found (λ i g o. leb o output) 19 change x ≡ coreFrom x change output (searchOf n l change output)
+  unfolding coreFrom guarded refuse
   core-chain (list.Refused number place) e = refl
   core-chain (list.Accepted i g o p s t w) e = rw (le-ltb p (searchOf n l change output .pins) (pins-within n l e change output))
 
@@ -117,14 +118,10 @@ module _ (n l : List ℕ) (change output : ℕ) (buffer : List ℕ) where
   unfolding coreAnswer
   core-is = core-chain n l change output (listChecked n l) refl
 
-  pub demand1 : Demand1 n l change output buffer
-  unfolding fullBuffer forwardBuffer accepted listAccepted
-  demand1 =
+  operations : Operations n l change output buffer
+  unfolding fullBuffer forwardBuffer
+  operations =
       record {
-        netlist-first = first-refusal n;
-        list-first = first-list-refusal n l;
-        netlist-proper = (accepted→proper n, proper→accepted n);
-        list-proper = (listed→proper n l, proper→listed n l);
         full-done =
             ((λ e. let h = full-cases .verdict .0 (full-is ∙ e) in (h .0, omega (arith, h .1))), λ h. sym full-is ∙ full-cases .verdict .1 (h .0, λ k. omega arith));
         full-refused =
@@ -142,6 +139,16 @@ module _ (n l : List ℕ) (change output : ℕ) (buffer : List ℕ) where
         core-refused =
             λ number place. ((λ e. core-cases .refusal number place .0 (core-is ∙ e)), λ h. sym core-is ∙ core-cases .refusal number place .1 h);
       }
+
+reading : (n l : List ℕ) → Reading n l
+unfolding accepted listAccepted
+reading n l =
+    record {
+      netlist-first = first-refusal n;
+      list-first = first-list-refusal n l;
+      netlist-proper = (accepted→proper n, proper→accepted n);
+      list-proper = (listed→proper n l, proper→listed n l);
+    }
 
 module _ (n l : List ℕ) (change : ℕ) (a : Accepted n l change) where
   abbrev claim : Claim (cardOf n) (firstVector n l change) (secondVector n l change)
@@ -161,7 +168,7 @@ module _ (n l : List ℕ) (change : ℕ) (a : Accepted n l change) where
             shows .twice-more (outputAt n output) (output-below n l change a output h) (sym (demand2 n l change a .verdicts m output h false called));
       }
 
-  pub demand3 : Demand3 n l change
+  demand3 : Demand3 n l change
   unfolding classIn cardOf
   demand3 =
       record {
@@ -172,3 +179,11 @@ module _ (n l : List ℕ) (change : ℕ) (a : Accepted n l change) where
             claim .stays-clean es (outputAt n output) (output-below n l change a output h) (sym (demand2 n l change a .verdicts m output h true called));
         hazard = (claim .hazard .0, shows-all);
       }
+
+pub demands : Demands
+demands =
+    record {
+      demand1 = record { reading = reading; operations = operations; opening = opening; step = step };
+      demand2 = demand2;
+      demand3 = demand3;
+    }

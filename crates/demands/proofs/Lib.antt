@@ -1,3 +1,4 @@
 pub mod Verdicts
 pub mod Refusals
+pub mod Walks
 pub mod Demands

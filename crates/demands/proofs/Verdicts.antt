@@ -1,27 +1,24 @@
 -- Demand 2: every method's verdict is the class's, and the counts are the definitions'. Assumes nothing.
-use Prim.Native.Nat.{ℕ, _+_, _≤_, _<_}
+use Prim.Native.Nat.{ℕ, _+_, _<_}
 use native.Mathlib.Omega.{arith}
 use mathlib.Core.Path.{_≡_, refl, sym, _∙_, ap}
 use mathlib.Core.Bool.{Bool, true, false, cond}
-use mathlib.Core.List.{List, _++_, map}
-use mathlib.Core.Option.{Option, none, some}
+use mathlib.Core.List.{List, map}
+use mathlib.Core.Option.{some}
 use borrow.Author.Tests.{eqb-true, eq-eqb}
-use lib.Dec.{eqb, leb, ltb}
+use lib.Dec.{leb, ltb}
 use lib.ListN.{length, getD, drop, List·getD-append}
 use Rattle.kung.specs.Class.{Class, code, ofCode, clean, inputClass}
 use Rattle.kung.specs.Rule.{gateClass}
-use Rattle.kung.specs.Sets.{has, setOf, cleanSet}
+use Rattle.kung.specs.Sets.{has, cleanSet}
 use Rattle.kung.proofs.Finite.{ofCode-code}
 use Rattle.kung.proofs.SetLaws.{has-setOf, iff→≡}
-use Rattle.circuit.specs.Circuit.{value}
-use Rattle.circuit.specs.Settled.{classOf}
 use Rattle.circuit.proofs.Ends.{class-input, class-gate}
+use Rattle.words.specs.Refusal.{refuse}
 use Rattle.netlist.specs.Netlist.{inputsOf, gatesOf, outputsOf, outputAt, gateKind, gatePins, cardOf}
 use Rattle.netlist.specs.Formed.{Formed}
 use Rattle.netlist.proofs.Accepted.{formed}
 use Rattle.changes.specs.declared.Listed.{Listed}
-use Rattle.changes.specs.declared.Listed.the-variants as list
-use Rattle.changes.specs.Refusals.{listChecked}
 use Rattle.changes.proofs.Laws.{tab-length}
 use Rattle.changes.proofs.Accepted.{listed}
 use Rattle.simulate.specs.Full.{classIn, codes, left, fullAnswer, fullBuffer}
@@ -29,7 +26,6 @@ use Rattle.simulate.specs.declared.Simulated.the-variants as simulated
 use Rattle.simulate.proofs.Theorems.{class-value, codes-length, codes-at}
 use Rattle.search.specs.Search as definition
 use Rattle.core.specs.Core.{answered, searchOf, coreAnswer}
-use Rattle.core.specs.declared.Cored.{Cored}
 use Rattle.core.specs.declared.Cored.the-variants as cored
 use Rattle.core.proofs.Theorems.{core-right}
 use Rattle.core.specs.Outputs.{verdictByte}
@@ -132,14 +128,14 @@ module _ (n l : List ℕ) (change : ℕ) (a : Accepted n l change) where
 
   forward-counts : (buffer : List ℕ) (touched visited : ℕ) → forwardAnswer n l change buffer ≡ forwarded.Done touched visited
       → (touched ≡ touchedIn n l change) × (visited ≡ visitedIn n l change)
-  unfolding forwardAnswer method.judged
+  unfolding forwardAnswer method.forwardFrom refuse
   forward-counts buffer touched visited e =
       go (leb (a .on .changes) change) (ltb (length buffer) (a .on .outputs)) (sym (ap judge (a .on .list-accepted)) ∙ e)
     where
       judge : Listed → Forwarded
-      judge x = method.judged x change (length buffer) (forwarded.Done (touchedIn n l change) (visitedIn n l change))
+      judge x = method.forwardFrom x change (length buffer) (forwarded.Done (touchedIn n l change) (visitedIn n l change))
 
-      go : (b d : Bool) → method.refuse b 18 (method.refuse d 20 (forwarded.Done (touchedIn n l change) (visitedIn n l change))) ≡ forwarded.Done touched visited
+      go : (b d : Bool) → refuse forwarded.Refused b 18 0 (refuse forwarded.Refused d 20 0 (forwarded.Done (touchedIn n l change) (visitedIn n l change))) ≡ forwarded.Done touched visited
           → (touched ≡ touchedIn n l change) × (visited ≡ visitedIn n l change)
       go true d h = let z : _≡_ {A = ℕ} 0 1 = cc in absurd (omega arith)
       go false true h = let z : _≡_ {A = ℕ} 0 1 = cc in absurd (omega arith)

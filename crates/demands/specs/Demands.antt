@@ -2,16 +2,17 @@
 use Prim.Native.Nat.{ℕ, _+_, _≤_, _<_}
 use mathlib.Core.Path.{_≡_}
 use mathlib.Core.Bool.{Bool, true, false}
-use mathlib.Core.List.{List, _++_, map}
-use mathlib.Core.Logic.{_↔_}
+use mathlib.Core.List.{List, [], _++_, map}
+use mathlib.Core.Logic.{_↔_, _⊎_}
 use mathlib.Core.Option.{Option, none, some}
 use lib.Dec.{eqb}
 use lib.ListN.{length, getD}
-use Rattle.kung.specs.Class.{Class, code, ofCode, clean, inputClass}
+use denote.Ref.{RefT, now}
+use Rattle.kung.specs.Class.{code, ofCode, clean, inputClass}
 use Rattle.kung.specs.Rule.{gateClass}
-use Rattle.circuit.specs.Circuit.{Card}
 use Rattle.circuit.specs.Settled.{settled}
 use Rattle.netlist.specs.Netlist.{inputsOf, gatesOf, outputsOf, outputAt, gateKind, gatePins, cardOf, accepted, checked}
+use Rattle.netlist.specs.Netlist.{kindAt, countAt, pastRecord, leastPins, mostPins}
 use Rattle.netlist.specs.Proper.{Proper, conditions, firstMet}
 use Rattle.netlist.specs.declared.Checked.the-variants as netlist
 use Rattle.changes.specs.Changes.{first, second, bitOf, widthOf}
@@ -23,9 +24,11 @@ use Rattle.simulate.specs.declared.Simulated.the-variants as simulated
 use Rattle.core.specs.Core.{answered, searchOf, coreAnswer}
 use Rattle.core.specs.declared.Cored.{Cored}
 use Rattle.core.specs.declared.Cored.the-variants as cored
-use Rattle.forward.specs.Forward.{touchedIn, visitedIn, outputSearch, forwardAnswer, forwardBuffer}
+use Rattle.forward.specs.Forward.{touchedIn, visitedIn, forwardAnswer, forwardBuffer}
 use Rattle.forward.specs.declared.Forwarded.the-variants as forwarded
-use Rattle.bench.specs.Bench.{Event, State, signalValue, after, AllowedFrom, Order, Complete, GateAfterGate, needs}
+use Rattle.walk.specs.declared.Walk.{Walk}
+use Rattle.walk.specs.Walk.{part, handed, stepped, opened, HandsBack}
+use Rattle.bench.specs.Bench.{Event, signalValue, after, AllowedFrom, Order, Complete, GateAfterGate, needs}
 
 -- an accepted netlist and list
 pub record ListAccepted (n l : List ℕ) : Type 0 where
@@ -74,20 +77,27 @@ Calls core n l change output called = cleanBy (coreAnswer n l change output) ≡
 
 -- Demand 1. "Whoever hands in a netlist, a list, a number or a buffer of whatever content or length gets a verdict or one of document 01's refusals,
 -- in its order; the work ends; a refusal leaves the caller's buffers untouched."
--- A refusal is the first condition met: "the list's, then change not below T 18", then one condition more.
-pub data FirstMet (n l : List ℕ) (change : ℕ) (last : Type 0) (lastNumber : ℕ) (number place : ℕ) : Type 0 where
-  by-list : listChecked n l ≡ list.Refused number place → FirstMet n l change last lastNumber number place
-  by-change : (on : ListAccepted n l) → on .changes ≤ change → number ≡ 18 → place ≡ 0 → FirstMet n l change last lastNumber number place
-  by-last : Accepted n l change → last → number ≡ lastNumber → place ≡ 0 → FirstMet n l change last lastNumber number place
+-- "the work ends" is no field: the proof of every function includes it, by measures that fall with each turn of a loop and each call of the cycle of
+-- visits; and definitions are total, so that there is an answer for the call to equal.
 
-pub record Demand1 (n l : List ℕ) (change output : ℕ) (buffer : List ℕ) : Type 0 where
+-- Netlists and lists
+pub record Reading (n l : List ℕ) : Type 0 where
   -- "In the order below, the first condition met is the refusal; where none is met there is none."
   pub netlist-first : checked n ≡ firstMet netlist.Refused (conditions n) (accepted n)
   pub list-first : listChecked n l ≡ firstMet list.Refused (listConditions n l) (listAccepted n l)
   -- a netlist, and a list, is accepted exactly where it is as document 01 says
   pub netlist-proper : (checked n ≡ accepted n) ↔ Proper n
   pub list-proper : (listChecked n l ≡ listAccepted n l) ↔ ProperList n l
-  -- "Full: the list's, then change not below T 18; buffer under I + G 20.": the verdict exactly where none is met, a refusal exactly where it is the first
+
+-- A refusal of an operation is the first condition met: "the list's, then change not below T 18", then one condition more.
+pub data FirstMet (n l : List ℕ) (change : ℕ) (last : Type 0) (lastNumber : ℕ) (number place : ℕ) : Type 0 where
+  by-list : listChecked n l ≡ list.Refused number place → FirstMet n l change last lastNumber number place
+  by-change : (on : ListAccepted n l) → on .changes ≤ change → number ≡ 18 → place ≡ 0 → FirstMet n l change last lastNumber number place
+  by-last : Accepted n l change → last → number ≡ lastNumber → place ≡ 0 → FirstMet n l change last lastNumber number place
+
+-- The operations: the verdict exactly where no condition is met, a refusal exactly where it is the first
+pub record Operations (n l : List ℕ) (change output : ℕ) (buffer : List ℕ) : Type 0 where
+  -- "Full: the list's, then change not below T 18; buffer under I + G 20."
   pub full-done : (fullAnswer n l change buffer ≡ simulated.Done) ↔ (Accepted n l change × (inputsOf n + gatesOf n ≤ length buffer))
   pub full-refused : (number place : ℕ)
       → (fullAnswer n l change buffer ≡ simulated.Refused number place) ↔ FirstMet n l change (length buffer < inputsOf n + gatesOf n) 20 number place
@@ -103,6 +113,52 @@ pub record Demand1 (n l : List ℕ) (change output : ℕ) (buffer : List ℕ) : 
       ↔ (Accepted n l change × (output < outputsOf n))
   pub core-refused : (number place : ℕ)
       → (coreAnswer n l change output ≡ cored.Refused number place) ↔ FirstMet n l change (outputsOf n ≤ output) 19 number place
+
+-- The gate walk: a step gives none, handing back no byte, or a record
+abbrev pub GivesNone : Walk → Type 0
+GivesNone w = handed w ≡ []
+
+abbrev pub GivesRecord : Walk → Type 0
+GivesRecord w = GivesNone w → ⊥
+
+-- "Walk: the netlist's." A netlist of whatever bytes is lent to a walk.
+pub record Opening (s : RefT (List ℕ)) : Type 0 where
+  -- "Opening checks the netlist": accepted, or the first condition met
+  pub checks : opened s .checked ≡ firstMet netlist.Refused (conditions (now s)) (accepted (now s))
+  -- "A gate walk carries the lent netlist and the record it has reached, by number and place, with G."
+  pub carries : checked (now s) ≡ accepted (now s) → opened s .walk ≡ record { netlist = s; number = 0; place = 11; count = gatesOf (now s) }
+  -- the walk of a refused netlist has no record
+  pub refused : (number place : ℕ) → checked (now s) ≡ netlist.Refused number place → GivesNone (opened s .walk)
+  -- "each step hands back the part that is the next record": gate 0's to gate G - 1's, in order, and then none
+  pub hands-back : checked (now s) ≡ accepted (now s) → HandsBack s
+  -- turned down: "a walk giving none on its first step though G is not 0"
+  pub first-step : checked (now s) ≡ accepted (now s) → 0 < gatesOf (now s) → GivesRecord (opened s .walk)
+
+-- "A whole record is a kind and a pin count that the netlist's rules permit and that many pins, all inside the netlist."
+pub record WholeRecord (n : List ℕ) (place : ℕ) : Type 0 where
+  pub kind-low : 1 ≤ kindAt n place
+  pub kind-high : kindAt n place ≤ 6
+  pub count-low : leastPins (kindAt n place) ≤ countAt n place
+  pub count-high : countAt n place ≤ mostPins (kindAt n place)
+  pub inside : pastRecord n place ≤ length n
+
+-- A step of a walk, whatever its netlist, number, place and G
+pub record Step (w : Walk) : Type 0 where
+  -- "It gives none exactly when all G records are handed back or no whole record can be read at its place."
+  pub gives-none : GivesNone w ↔ ((w .count ≤ w .number) ⊎ (WholeRecord (now (w .netlist)) (w .place) → ⊥))
+  -- "each step hands back the part that is the next record": kind, pin count and pins
+  pub gives-record : GivesRecord w → handed w ≡ part (now (w .netlist)) (w .place) (pastRecord (now (w .netlist)) (w .place))
+  -- "A step that hands back a record moves the number on by one and the place past the record"
+  pub moves-on : GivesRecord w
+      → stepped w ≡ record { netlist = w .netlist; number = w .number + 1; place = pastRecord (now (w .netlist)) (w .place); count = w .count }
+  -- "a step that gives none leaves the walk unchanged"
+  pub stays : GivesNone w → stepped w ≡ w
+
+pub record Demand1 : Type 0 where
+  pub reading : (n l : List ℕ) → Reading n l
+  pub operations : (n l : List ℕ) (change output : ℕ) (buffer : List ℕ) → Operations n l change output buffer
+  pub opening : (s : RefT (List ℕ)) → Opening s
+  pub step : (w : Walk) → Step w
 
 -- Demand 2. "Every signal's class is the one that Kung's eight-valued tables give; the forward method and CORE call an output clean exactly when its
 -- class is 0, 1, R or F, and their counts are those of document 01's searches."
@@ -154,3 +210,9 @@ pub record Demand3 (n l : List ℕ) (change : ℕ) : Type 0 where
       ≤ needs (cardOf n) (firstVector n l change) (secondVector n l change) (outputAt n output)
   -- "one complete order"
   pub hazard : (order : List Event) × ShowsAll n l change order
+
+-- All that is promised: Demand 1 of whatever is handed in, Demands 2 and 3 of each change of an accepted list
+pub record Demands : Type 0 where
+  pub demand1 : Demand1
+  pub demand2 : (n l : List ℕ) (change : ℕ) → Accepted n l change → Demand2 n l change
+  pub demand3 : (n l : List ℕ) (change : ℕ) → Accepted n l change → Demand3 n l change

@@ -5,6 +5,7 @@ use mathlib.Core.Path.{_≡_, refl, sym, _∙_, ap}
 use mathlib.Core.List.{List, _++_}
 use borrow.Author.Tests.{le-leb, lt-leb, lt-ltb, le-ltb}
 use lib.ListN.{length, getD, drop, List·getD-append}
+use Rattle.words.specs.Refusal.{refuse}
 use Rattle.netlist.specs.Netlist.{outputsOf, placeOf}
 use Rattle.netlist.specs.Formed.{Formed}
 use Rattle.netlist.proofs.Accepted.{formed}
@@ -13,22 +14,22 @@ use Rattle.changes.specs.Refusals.{listChecked}
 use Rattle.changes.proofs.Laws.{tab-length}
 use Rattle.changes.proofs.Accepted.{listed}
 use Rattle.forward.specs.declared.Forwarded.the-variants.{Done, Refused}
-use Rattle.forward.specs.Forward.{touchedIn, forwardBytes, visitedIn, judged, forwardAnswer, forwardBuffer}
+use Rattle.forward.specs.Forward.{touchedIn, forwardBytes, visitedIn, forwardFrom, forwardAnswer, forwardBuffer}
 
 module _ (n l : List ℕ) (change : ℕ) (buffer : List ℕ) where
   pub refused-list : (number place : ℕ) → listChecked n l ≡ list.Refused number place
       → (Refused number place ≡ forwardAnswer n l change buffer) × (buffer ≡ forwardBuffer n l change buffer)
-  unfolding forwardAnswer forwardBuffer judged
+  unfolding forwardAnswer forwardBuffer forwardFrom refuse
   refused-list number place e = (rw e, rw e)
 
   module _ {i g o p s t w : ℕ} (e : listChecked n l ≡ list.Accepted i g o p s t w) where
     pub refused-change : t ≤ change → (Refused 18 0 ≡ forwardAnswer n l change buffer) × (buffer ≡ forwardBuffer n l change buffer)
-    unfolding forwardAnswer forwardBuffer judged
+    unfolding forwardAnswer forwardBuffer forwardFrom refuse
     refused-change late = (rw (e, le-leb t change late), rw (e, le-leb t change late))
 
     module _ (early : change < t) where
       pub refused-room : length buffer < o → (Refused 20 0 ≡ forwardAnswer n l change buffer) × (buffer ≡ forwardBuffer n l change buffer)
-      unfolding forwardAnswer forwardBuffer judged
+      unfolding forwardAnswer forwardBuffer forwardFrom refuse
       refused-room small =
           (rw (e, lt-leb t change early, lt-ltb (length buffer) o small), rw (e, lt-leb t change early, lt-ltb (length buffer) o small))
 
@@ -39,7 +40,7 @@ module _ (n l : List ℕ) (change : ℕ) (buffer : List ℕ) where
       pub done : o ≤ length buffer → (touched visited : ℕ) → touched ≡ touchedIn n l change → visited ≡ visitedIn n l change → (exit : List ℕ)
           → exit ≡ forwardBytes n l change ++ drop o buffer
           → (Done touched visited ≡ forwardAnswer n l change buffer) × (exit ≡ forwardBuffer n l change buffer)
-      unfolding forwardAnswer forwardBuffer judged
+      unfolding forwardAnswer forwardBuffer forwardFrom refuse
       done room touched visited t v exit x = (
         rw (e, lt-leb _ change early, le-ltb (length buffer) o room, t, v),
         rw (e, lt-leb _ change early, le-ltb (length buffer) o room, bytes-length) x,

@@ -14,7 +14,7 @@ use Rattle.kung.specs.Tables.{tab}
 use Rattle.kung.proofs.Listed.{getD-tab}
 use Rattle.words.specs.Words.{wordAt, wordsAt}
 use Rattle.netlist.specs.Netlist.{gatePins}
-use Rattle.changes.specs.Changes.{written}
+use Rattle.changes.specs.Written.{written}
 use Rattle.changes.proofs.Laws.{tab-length}
 use Rattle.search.specs.Pins.{sumBelow}
 use Rattle.forward.specs.Known.{isConstantCode, anyConstant, touchedBy}

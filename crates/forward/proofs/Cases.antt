@@ -9,6 +9,7 @@ use Rattle.kung.specs.Sets.{setOf, has, meets, image, possible, wantedFor}
 use Rattle.kung.specs.Tables.{tab}
 use Rattle.circuit.specs.Circuit.{sources}
 use Rattle.words.specs.Words.{wordAt, longAt, wordsAt, marked, outside, tieFrom, tieOf}
+use Rattle.words.specs.Refusal.{refuse}
 use Rattle.netlist.specs.Netlist as netlist
 use Rattle.changes.specs.Changes.{bitAt, inputClassAt, sourcesOf}
 use Rattle.changes.specs.Refusals as list
@@ -19,18 +20,18 @@ use Rattle.simulate.proofs.Cases.{muxNetlist, muxList}
 use Rattle.forward.specs.declared.Forwarded.the-variants.{Done}
 use Rattle.forward.specs.declared.Forwarded.{Forwarded}
 use Rattle.forward.specs.Constants.{allKnown, follows, spread, knownSources, touched}
-use Rattle.forward.specs.Forward.{touchedIn, outputSearch, forwardBytes, visitedIn, judged, forwardAnswer, forwardBuffer}
+use Rattle.forward.specs.Forward.{touchedIn, outputSearch, forwardBytes, visitedIn, forwardFrom, forwardAnswer, forwardBuffer}
 
 -- the answer, and the buffer of two bytes after it
 called : (netlist list : List ℕ) → Forwarded × List ℕ
-unfolding forwardAnswer forwardBuffer judged touchedIn outputSearch forwardBytes visitedIn touched allKnown follows spread knownSources sumBelow tab
+unfolding forwardAnswer forwardBuffer forwardFrom touchedIn outputSearch forwardBytes visitedIn touched allKnown follows spread knownSources sumBelow tab
     search visit takePins takePin driverOf checks sameResult only onlyOf possibleOf total put cellAt cellOf search.judged
     ofCode setOf has meets image possible wantedFor join joinAll rule.andAll rule.orAll rule.each rule.some rule.gateClass rule.kindOf
     sources sourcesOf inputClassAt bitAt wordAt longAt wordsAt marked outside tieOf tieFrom
-    list.listChecked list.against list.afterNetlist list.sparesFrom list.spareAt list.spareBits list.refuse
+    list.listChecked list.against list.afterNetlist list.sparesFrom list.spareAt list.spareBits
     netlist.checked netlist.checkedWithin netlist.bodyWithin netlist.body netlist.accepted netlist.outputs netlist.counts netlist.opening
     netlist.recordsFrom netlist.recordAt netlist.mostPins netlist.leastPins netlist.noKind netlist.wordsBelow
-    netlist.refuse netlist.pinsBelow netlist.placeOf netlist.cardOf
+    refuse netlist.pinsBelow netlist.placeOf netlist.cardOf
 called n l = (forwardAnswer n l 0 (7 ∷ 9 ∷ []), forwardBuffer n l 0 (7 ∷ 9 ∷ []))
 
 mux-called : called muxNetlist muxList ≡ (Done 2 4, 1 ∷ 9 ∷ [])

@@ -20,19 +20,23 @@ use Rattle.kung.proofs.Finite.{everyClass, class-at, beq→≡, ofCode-code}
 use Rattle.circuit.specs.Circuit.{Source, given, gate, outOf, Each, value}
 use Rattle.circuit.proofs.Laws.{each-map, value-law, sources-cases}
 use Rattle.words.specs.Words.{wordAt}
-use Rattle.netlist.specs.Netlist.{inputsOf, gatesOf, placesOf, gateKind, gatePins, cardOf}
+use Rattle.netlist.specs.Netlist.{inputsOf, gatesOf, gateKind, gatePins, cardOf}
+use Rattle.netlist.specs.Index.{placesOf}
 use Rattle.netlist.specs.Formed.{Formed}
 use Rattle.netlist.proofs.Accepted.{formed}
 use Rattle.changes.specs.declared.Listed.the-variants.{Accepted}
-use Rattle.changes.specs.Changes.{sourcesOf, written}
+use Rattle.changes.specs.Changes.{sourcesOf}
+use Rattle.changes.specs.Written.{written}
 use Rattle.changes.specs.Refusals.{listChecked}
 use Rattle.changes.proofs.Laws.{written-all, written-kept}
 use Rattle.changes.proofs.Accepted.{listed}
 use Rattle.search.specs.Search.{search}
 use Rattle.search.specs.Pins.{sumBelow}
 use Rattle.search.proofs.Laws.{fresh-at}
-use Rattle.visit.specs.Source.{kindFrom, pinsFrom, sourceFrom, GatesOnly}
-use Rattle.core.specs.Outputs.{verdictByte, searchFrom, byteFrom, sumFrom, OutputsReady}
+use Rattle.visit.specs.Source.{kindFrom, pinsFrom, sourceFrom}
+use Rattle.visit.specs.Lent.{GatesOnly}
+use Rattle.core.specs.Outputs.{verdictByte, searchFrom, byteFrom, sumFrom}
+use Rattle.core.specs.Lent.{OutputsReady}
 use Rattle.visit.proofs.Codes.{code-small}
 use Rattle.core.proofs.Cards.{ready}
 use Rattle.simulate.specs.Full.{classIn, codes}

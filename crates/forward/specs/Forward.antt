@@ -1,6 +1,5 @@
 -- Document 01, "The forward method" and "Turned back, by operation": the forward method on a change.
 use Prim.Native.Nat.{ℕ, _+_}
-use mathlib.Core.Bool.{Bool, cond}
 use mathlib.Core.List.{List, _++_}
 use mathlib.Core.Option.{Option}
 use lib.Dec.{leb, ltb}
@@ -8,6 +7,7 @@ use lib.ListN.{length, drop}
 use Rattle.kung.specs.Class.{Class}
 use Rattle.kung.specs.Sets.{cleanSet}
 use Rattle.kung.specs.Tables.{tab}
+use Rattle.words.specs.Refusal.{refuse}
 use Rattle.netlist.specs.Netlist.{inputsOf, gatesOf, outputsOf, outputAt, cardOf}
 use Rattle.changes.specs.declared.Listed.{Listed}
 use Rattle.changes.specs.declared.Listed.the-variants as list
@@ -39,21 +39,17 @@ forwardBytes n l t = tab (λ o. verdictByte ((outputSearch n l t o) .verdict)) 0
 unfoldable pub visitedIn : (netlist list : List ℕ) → (t : ℕ) → ℕ
 visitedIn n l t = sumBelow (λ o. (outputSearch n l t o) .gates) (outputsOf n)
 
--- "In the order below, the first condition met is the refusal"; "Places from 18 up are 0 unless given otherwise."
-abbrev pub refuse : Bool → (number : ℕ) → Forwarded → Forwarded
-refuse test number next = cond test (Refused number 0) next
-
--- "Forward: the list's, 18, buffer under O 20."
-unfoldable pub judged : Listed → (change room : ℕ) → Forwarded → Forwarded
-judged (list.Refused number place) change room next = Refused number place
-judged (list.Accepted inputs gates outputs pins entries changes width) change room next =
-    refuse (leb changes change) 18
-    (refuse (ltb room outputs) 20
+-- "Forward: the list's, 18, buffer under O 20."; "Places from 18 up are 0 unless given otherwise."
+unfoldable pub forwardFrom : Listed → (change room : ℕ) → Forwarded → Forwarded
+forwardFrom (list.Refused number place) change room next = Refused number place
+forwardFrom (list.Accepted inputs gates outputs pins entries changes width) change room next =
+    refuse Refused (leb changes change) 18 0
+    (refuse Refused (ltb room outputs) 20 0
     next)
 
 -- "returned are the touched count and the sum of gates visited over all outputs"
 unfoldable pub forwardAnswer : (netlist list : List ℕ) → (change : ℕ) → (buffer : List ℕ) → Forwarded
-forwardAnswer n l change buffer = judged (listChecked n l) change (length buffer) (Done (touchedIn n l change) (visitedIn n l change))
+forwardAnswer n l change buffer = forwardFrom (listChecked n l) change (length buffer) (Done (touchedIn n l change) (visitedIn n l change))
 
 -- "later bytes stay"; a refused call leaves the buffer as it was
 abbrev pub left : Forwarded → (written buffer : List ℕ) → List ℕ

@@ -7,7 +7,7 @@ use lib.ListN.{getD}
 use Rattle.kung.specs.Rule.{some}
 use Rattle.kung.specs.Sets.{bit}
 use Rattle.netlist.specs.Netlist.{gatePins}
-use Rattle.changes.specs.Changes.{written}
+use Rattle.changes.specs.Written.{written}
 use Rattle.search.specs.Pins.{sumBelow}
 
 -- the codes of `0` and `1`

@@ -3,7 +3,7 @@ use Prim.Native.Nat.{ℕ, _≤_, _<_}
 use mathlib.Core.Path.{_≡_}
 use mathlib.Core.List.{List, _++_}
 use Rattle.kung.specs.Tables.{imageTable, wantedTable, gateTable}
-use Rattle.netlist.specs.Netlist.{placesOf}
+use Rattle.netlist.specs.Index.{placesOf}
 use Rattle.changes.specs.declared.Listed.the-variants.{Accepted}
 use Rattle.changes.specs.Refusals.{listChecked}
 

@@ -10,28 +10,29 @@ use borrow.Author.Tests.{lt-ltb, le-ltb}
 use Rattle.kung.specs.Class.{Class, c0, code, classes, ofCode}
 use Rattle.kung.specs.Rule.{kindOf, gateClass}
 use Rattle.kung.specs.Operation.{Op, and, or, opAt}
-use Rattle.kung.specs.Sets.{image, members}
-use Rattle.kung.specs.Tables.{imageRule, imageTable, preimage, reach, blockRule, halfSet, wantedRule, wantedTable, gateRule, gateTable, placeOf}
+use Rattle.kung.specs.Sets.{image}
+use Rattle.kung.specs.Members.{members}
+use Rattle.kung.specs.Tables.{imageRule, imageTable, preimage, reach, blockRule, halfSet, wantedRule, wantedTable, gateRule, gateTable, imagePlace}
 use Rattle.kung.proofs.Listed.{getD-tab}
 use Rattle.kung.proofs.Unions.{block-or, halves}
 
 -- an operation, a class and a set are read back from their place
 read : (f : Op → Class → ℕ → ℕ) (o p m : ℕ) → m < 256
-    → f (opAt (placeOf o p m / 2048)) (ofCode (placeOf o p m / 256)) (placeOf o p m % 256) ≡ f (opAt o) (ofCode p) m
+    → f (opAt (imagePlace o p m / 2048)) (ofCode (imagePlace o p m / 256)) (imagePlace o p m % 256) ≡ f (opAt o) (ofCode p) m
 unfolding ofCode
 read f o p m h =
-    let a : placeOf o p m / 2048 % 2 ≡ o % 2 = omega arith in
-    let b : placeOf o p m / 256 % 8 ≡ p % 8 = omega arith in
-    let d : placeOf o p m % 256 ≡ m = omega arith in
+    let a : imagePlace o p m / 2048 % 2 ≡ o % 2 = omega arith in
+    let b : imagePlace o p m / 256 % 8 ≡ p % 8 = omega arith in
+    let d : imagePlace o p m % 256 ≡ m = omega arith in
     λ i. f (cond (eqb (a i) 0) and or) (getD classes (b i) c0) (d i)
 
-pub place-lt : (o p m : ℕ) → m < 256 → placeOf o p m < 4096
+pub place-lt : (o p m : ℕ) → m < 256 → imagePlace o p m < 4096
 place-lt o p m h = omega arith
 
 module _ (o p m : ℕ) (h : m < 256) where
-  pub image-at : getD imageTable (placeOf o p m) 0 ≡ image (opAt o) (ofCode p) m
+  pub image-at : getD imageTable (imagePlace o p m) 0 ≡ image (opAt o) (ofCode p) m
   unfolding imageTable imageRule
-  image-at = getD-tab imageRule 4096 (placeOf o p m) (place-lt o p m h) ∙ read image o p m h
+  image-at = getD-tab imageRule 4096 (imagePlace o p m) (place-lt o p m h) ∙ read image o p m h
 
 -- entry k of a block
 entry : (b k m : ℕ) → b < 18 → k < 32 → cond (ltb k 16) (k % 16) (k % 16 * 16) ≡ m → getD wantedTable (b * 32 + k) 0 ≡ blockRule b m

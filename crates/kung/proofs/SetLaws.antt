@@ -10,7 +10,8 @@ use lib.ListN.{length, getD}
 use Rattle.kung.specs.Class.{Class, c0, code, classes, same}
 use Rattle.kung.specs.Rule.{some, invert, Kind, gateClass}
 use Rattle.kung.specs.Operation.{Op, opOf, inverts, join, joinAll, invertIf}
-use Rattle.kung.specs.Sets.{setOf, has, meets, image, possible, wantedFor, swapIf, keep, members, insert, collect}
+use Rattle.kung.specs.Sets.{setOf, has, meets, image, possible, wantedFor}
+use Rattle.kung.specs.Members.{swapIf, keep, members, insert, collect}
 use Rattle.kung.specs.Tables.{preimage, reach}
 use Rattle.kung.proofs.Laws.{join-assoc, join-comm, join-idem, joinAll-cons, gateClass-op}
 use Rattle.kung.proofs.Finite.{everyClass, class-at, same→≡, beq→≡, T→≡, ≡→T}

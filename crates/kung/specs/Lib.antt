@@ -2,4 +2,5 @@ pub mod Class
 pub mod Rule
 pub mod Operation
 pub mod Sets
+pub mod Members
 pub mod Tables

@@ -1,7 +1,6 @@
 -- Sets of classes as bytes: class k is in the set if bit `code k` is set.
 use Prim.Native.Nat.{ℕ, _+_, _*_, _/_, _%_, _^_}
-use mathlib.Core.Bool.{Bool, true, false, cond, _&&_, _||_}
-use mathlib.Core.List.{List, [], _∷_}
+use mathlib.Core.Bool.{Bool, true, false, cond, _&&_}
 use lib.Dec.{eqb}
 use Rattle.kung.specs.Class.{Class, c0, c1, R, F, S0, S1, D+, D-, code, classes, clean, same}
 use Rattle.kung.specs.Rule.{some}
@@ -17,35 +16,6 @@ setOf f = bit (f c0) + 2 * bit (f c1) + 4 * bit (f R) + 8 * bit (f F) + 16 * bit
 
 unfoldable pub has : ℕ → Class → Bool
 has m k = eqb (m / 2 ^ code k % 2) 1
-
--- the set's classes, by their codes
-unfoldable pub keep : (Class → Bool) → List Class → List Class
-keep f [] = []
-keep f (k ∷ ks) = cond (f k) (k ∷ keep f ks) (keep f ks)
-
-abbrev pub members : ℕ → List Class
-members m = keep (has m) classes
-
--- the set with one class more; the set of a list's classes
-unfoldable pub insert : ℕ → Class → ℕ
-insert m k = setOf (λ c. has m c || same k c)
-
-unfoldable pub collect : List Class → ℕ
-collect [] = 0
-collect (k ∷ ks) = insert (collect ks) k
-
--- the inverses of the set's classes, where due
-unfoldable pub swapIf : Bool → ℕ → ℕ
-swapIf inverted m = setOf (λ k. has m (invertIf inverted k))
-
--- the code of the set's only class, 8 where it has none or several
-unfoldable pub only : ℕ → ℕ
-only m = single (members m)
-  where
-    single : List Class → ℕ
-    single [] = 8
-    single (k ∷ []) = code k
-    single (k ∷ l ∷ ks) = 8
 
 -- two sets share a class
 unfoldable pub meets : ℕ → ℕ → Bool

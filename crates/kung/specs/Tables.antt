@@ -6,7 +6,8 @@ use lib.Dec.{ltb}
 use Rattle.kung.specs.Class.{Class, code, classes, ofCode}
 use Rattle.kung.specs.Rule.{some, kindOf, gateClass}
 use Rattle.kung.specs.Operation.{Op, join, opAt}
-use Rattle.kung.specs.Sets.{setOf, has, image, members}
+use Rattle.kung.specs.Sets.{setOf, has, image}
+use Rattle.kung.specs.Members.{members}
 
 -- f i, f (i + 1), and so on: n numbers
 unfoldable pub tab : (ℕ → ℕ) → ℕ → ℕ → List ℕ
@@ -17,9 +18,9 @@ tab f i (suc n) = f i ∷ tab f (suc i) n
 unfoldable pub imageRule : ℕ → ℕ
 imageRule i = image (opAt (i / 2048)) (ofCode (i / 256)) (i % 256)
 
--- an entry's place
-abbrev pub placeOf : (operation p set : ℕ) → ℕ
-placeOf operation p set = operation % 2 * 2048 + p % 8 * 256 + set
+-- an entry's place in it
+abbrev pub imagePlace : (operation p set : ℕ) → ℕ
+imagePlace operation p set = operation % 2 * 2048 + p % 8 * 256 + set
 
 unfoldable pub imageTable : List ℕ
 imageTable = tab imageRule 0 4096

@@ -4,8 +4,9 @@ ghost use Rattle.kung.specs.Class.{code, ofCode};
 ghost use Prim.Native.Nat.{_%_, _<_};
 ghost use Rattle.kung.specs.Rule.{invert, kindOf, gateClass};
 ghost use Rattle.kung.specs.Operation.{join, opAt};
-ghost use Rattle.kung.specs.Sets.{image, possible, wantedFor, insert, swapIf, only, members};
-ghost use Rattle.kung.specs.Tables.{imageTable, wantedTable, gateTable, preimage, reach, placeOf, blockRule};
+ghost use Rattle.kung.specs.Sets.{image, possible, wantedFor};
+ghost use Rattle.kung.specs.Members.{insert, swapIf, onlyCode, members};
+ghost use Rattle.kung.specs.Tables.{imageTable, wantedTable, gateTable, preimage, reach, imagePlace, blockRule};
 
 fn wide(x: u8) -> usize
     ensures { λ r. ⌜ r ≡ x ⌝ }
@@ -15,7 +16,7 @@ fn wide(x: u8) -> usize
 
 // An entry's place in the table of images and of preimages.
 fn place(operation: u8, p: u8, set: u8) -> usize
-    ensures { λ r. ⌜ r ≡ placeOf operation p set ⌝ }
+    ensures { λ r. ⌜ r ≡ imagePlace operation p set ⌝ }
 {
     wide(operation % 2) * 2048 + wide(p % 8) * 256 + wide(set)
 }
@@ -44,7 +45,7 @@ pub fn swapped(inverted: bool, set: u8) -> u8
 
 // The code of the set's only class, or 8.
 pub fn only_class(set: u8) -> u8
-    ensures { λ r. ⌜ r ≡ only set ⌝ }
+    ensures { λ r. ⌜ r ≡ onlyCode set ⌝ }
 {
     if set == 0 {
         return 8;

@@ -1,12 +1,9 @@
-// The program: reads a card and its list of changes, and prints a verdict for each change and output.
-ghost use mathlib.Core.Path.{_≡_};
-ghost use Prim.Native.Nat.{_≤_};
-ghost use lib.ListN.{length};
+// The program: reads a card and its list of changes, and writes what is printed, piece by piece. No contract can see what is read or written, so
+// that the files are these two and that each piece is written is left to tests/program.
 ghost use Rattle.io.specs.Counts.{Counts};
-ghost use Rattle.changes.specs.Refusals.{listChecked};
-ghost use Rattle.listing.specs.Lent.{sizesOf};
+use libc::STDERR_FILENO;
 use libc::STDOUT_FILENO;
-use listing::Sizes;
+use listing::Progress;
 
 // Reads the first bytes of a file, as many as the buffer holds: none where it is missing or cannot be read.
 fn read_start(path: &[u8], buffer: &mut [u8]) -> usize
@@ -21,36 +18,24 @@ fn read_start(path: &[u8], buffer: &mut [u8]) -> usize
     n
 }
 
-// Prints the lines of the changes in large pieces, until a write fails.
-fn print_changes(netlist: &[u8], list: &[u8], sizes: Sizes, buffer: &mut [u8])
-    requires { ⌜ (sizes ≡ sizesOf (listChecked (now netlist) (now list))) × (3072 ≤ length (now buffer)) ⌝ }
-{
-    let mut change: usize = 0;
-    while change < sizes.changes {
-        let page = listing::put_changes(netlist, list, sizes, change, buffer);
-        let length = page.length;
-        if !io::write_all(STDOUT_FILENO, &buffer[..length]) {
-            return;
-        }
-        change = page.next;
-    }
-}
-
-fn print(netlist: &[u8], list: &[u8]) {
-    let mut buffer = io::large_buffer();
-    let head = listing::put_head(netlist, list, &mut buffer);
-    let length = head.length;
-    if !io::write_all(STDOUT_FILENO, &buffer[..length]) {
-        return;
-    }
-    let sizes = head.sizes;
-    print_changes(netlist, list, sizes, &mut buffer);
-}
-
+// A write that fails ends the program with a line on standard error, where it writes nothing else.
 fn main() {
     let mut netlist = io::large_buffer();
     let n = read_start(b"lane.lcn", &mut netlist);
     let mut list = io::large_buffer();
     let l = read_start(b"lane.lct", &mut list);
-    print(&netlist[..n], &list[..l]);
+    let mut buffer = io::large_buffer();
+    let mut progress = Progress::Start;
+    loop {
+        let piece = listing::next_piece(&netlist[..n], &list[..l], progress, &mut buffer);
+        let length = piece.length;
+        if length == 0 {
+            return;
+        }
+        if !io::write_all(STDOUT_FILENO, &buffer[..length]) {
+            io::write_all(STDERR_FILENO, b"lane: cannot write\n");
+            return;
+        }
+        progress = piece.next;
+    }
 }

@@ -17,6 +17,8 @@ use Rattle.forward.specs.declared.Forwarded.the-variants as forward
 use Rattle.simulate.specs.Full.{fullAnswer, fullBuffer}
 use Rattle.simulate.specs.declared.Simulated.{Simulated}
 use Rattle.simulate.specs.declared.Simulated.the-variants as simulate
+use Rattle.walk.specs.declared.Start.{Start}
+use Rattle.walk.specs.declared.Stepped.{Stepped}
 
 -- number and words together: a refusal's first word is its place
 pub record Answer : Type 0 where
@@ -74,3 +76,15 @@ pub record AllJudged (m : Method) (n l : List ℕ) (entry exit : List ℕ) (numb
   pub number-is : number ≡ judgedAnswer (allAnswer m n l entry) .number
   pub words-are : words ≡ judgedAnswer (allAnswer m n l entry) .words
   pub bytes-are : exit ≡ allBuffer m n l entry
+
+-- opening a walk: where it starts, by number and place, and how many records it has to hand back
+unfoldable pub openedAnswer : Checked → (number place count : ℕ) → Answer
+openedAnswer (netlist.Accepted inputs gates outputs pins entries) number place count = accepted number place count 0 0
+openedAnswer (netlist.Refused refusal at) number place count = refused refusal at
+
+abbrev pub startAnswer : Start → Answer
+startAnswer o = openedAnswer (o .checked) (o .number) (o .place) (o .count)
+
+-- a step of a walk, which nothing refuses: how many bytes it hands back, 0 for none, and the number and place it reaches
+abbrev pub stepAnswer : Stepped → Answer
+stepAnswer t = accepted (t .length) (t .number) (t .place) 0 0

@@ -8,7 +8,8 @@ ghost use Rattle.netlist.specs.Netlist.{checked};
 ghost use Rattle.changes.specs.Refusals.{listChecked};
 ghost use Rattle.core.specs.Core.{coreAnswer};
 ghost use Rattle.batch.specs.Batch.{fullOf, forwardOf, coreOf};
-ghost use Rattle.lanecard.specs.Answers.{netlistAnswer, listAnswer, Fulled, coredAnswer, ForwardedOf, judgedAnswer, AllJudged};
+ghost use Rattle.walk.specs.Walk.{opened, startOf, walkAt, stepOf};
+ghost use Rattle.lanecard.specs.Answers.{netlistAnswer, listAnswer, Fulled, coredAnswer, ForwardedOf, judgedAnswer, AllJudged, startAnswer, stepAnswer};
 use batch::Judged;
 use changes::Listed;
 use core::Cored;
@@ -207,4 +208,40 @@ pub extern "C" fn lane_core_all(
 {
     let judged = batch::core(netlist, list, buffer);
     put_judged(answer, judged)
+}
+
+#[no_mangle]
+pub extern "C" fn lane_walk(netlist: &[u8], answer: &mut [u64; 5]) -> u32
+    ensures { λ r. ⌜ (r ≡ startAnswer (startOf (opened (netlist .entry))) .number) × (now (answer .exit) ≡ startAnswer (startOf (opened (netlist .entry))) .words) ⌝ }
+{
+    let start = walk::open_at(netlist);
+    let checked = start.checked;
+    match checked {
+        Checked::Refused(number, place) => refuse(answer, number, place),
+        Checked::Accepted {
+            inputs: _,
+            gates: _,
+            outputs: _,
+            pins: _,
+            entries: _,
+        } => {
+            put(answer, start.number, start.place, start.count, 0, 0);
+            0
+        }
+    }
+}
+
+#[no_mangle]
+pub extern "C" fn lane_step(
+    netlist: &[u8],
+    number: usize,
+    place: usize,
+    count: usize,
+    answer: &mut [u64; 5],
+) -> u32
+    ensures { λ r. ⌜ (r ≡ stepAnswer (stepOf (walkAt (netlist .entry) number place count)) .number) × (now (answer .exit) ≡ stepAnswer (stepOf (walkAt (netlist .entry) number place count)) .words) ⌝ }
+{
+    let stepped = walk::step_at(netlist, number, place, count);
+    put(answer, stepped.length, stepped.number, stepped.place, 0, 0);
+    0
 }

@@ -2,6 +2,7 @@
 use Prim.Native.Nat.{ℕ, zero, suc, _+_, _-_, _*_, _≤_, _<_}
 use native.Mathlib.Omega.{arith}
 use native.Mathlib.Nat.{add-zero, add-suc, add-assoc, le-refl, suc-mul}
+use native.Mathlib.Numerals.{add-one, one-add}
 use mathlib.Core.Path.{_≡_, refl, ap, ap₂}
 use mathlib.Core.List.{List, _++_, append-assoc, append-nil}
 use lib.ListN.{length, length-append}
@@ -10,7 +11,7 @@ use Rattle.changes.specs.declared.Listed.the-variants.{Accepted, Refused}
 use Rattle.report.specs.Appended.{Appended}
 use Rattle.report.proofs.Appending.{_then_, kept}
 use Rattle.listing.specs.declared.Sizes.{Sizes}
-use Rattle.listing.specs.Listing.{texts}
+use Rattle.listing.specs.Listing.{texts, printedChanges}
 use Rattle.listing.specs.Lent.{sizesOf}
 
 module _ (f : ℕ → List ℕ) (i : ℕ) where
@@ -30,6 +31,16 @@ module _ (f : ℕ → List ℕ) (i : ℕ) where
   unfolding texts
   texts-join n zero = rw add-zero (append-nil _)
   texts-join n (suc k) = rw add-suc (rw (← texts-join n k, append-assoc, add-assoc))
+
+-- the first text, then the others
+pub texts-cons : (f : ℕ → List ℕ) (t k : ℕ) → f t ++ texts f (suc t) k ≡ texts f t (suc k)
+unfolding texts
+texts-cons f t k = rw (add-zero, add-one, one-add) at (texts-join f t 1 k)
+
+-- texts of which the first is not empty
+pub texts-some : (f : ℕ → List ℕ) (t k : ℕ) → 1 ≤ length (f t) → 1 ≤ k → 1 ≤ length (texts f t k)
+texts-some f t zero h some = absurd (omega arith)
+texts-some f t (suc k) h some = rw (← texts-cons f t k) (simp length-append (omega arith))
 
 -- one text more, behind those that are there
 module _ (f : ℕ → List ℕ) (i n k m : ℕ) (next : k ≡ i + n) where
@@ -58,3 +69,9 @@ pub accepted : (listed : Listed) (sizes : Sizes) (change : ℕ) → sizes ≡ si
 unfolding sizesOf
 accepted (Refused number place) sizes change e h = absurd (omega (arith, ap (λ s. s .changes) e))
 accepted (Accepted i g o p s t w) sizes change e h = (p, rw e)
+
+-- the changes among the sizes are those to print
+pub changes-are : (listed : Listed) (sizes : Sizes) → sizes ≡ sizesOf listed → sizes .changes ≡ printedChanges listed
+unfolding sizesOf printedChanges
+changes-are (Refused number place) sizes e = ap (λ s. s .changes) e
+changes-are (Accepted i g o p s t w) sizes e = ap (λ s. s .changes) e

@@ -1,5 +1,5 @@
 pub mod Laws
-mod Heads
+mod Pages
 mod Lines
 mod Prepared
 pub mod Theorems

@@ -7,7 +7,7 @@ use lib.ListN.{length, getD, length-append, List·getD-append}
 use Rattle.kung.specs.Class.{Class, ofCode}
 use Rattle.kung.specs.Sets.{cleanSet}
 use Rattle.kung.proofs.Finite.{ofCode-code}
-use Rattle.netlist.specs.Netlist.{inputsOf, gatesOf, outputsOf, outputAt}
+use Rattle.netlist.specs.Netlist.{inputsOf, outputsOf, outputAt}
 use Rattle.netlist.specs.Formed.{Formed}
 use Rattle.netlist.proofs.Accepted.{formed}
 use Rattle.changes.specs.declared.Listed.the-variants.{Accepted}
@@ -15,11 +15,13 @@ use Rattle.changes.specs.Changes.{widthOf, inputClassAt, sourcesOf}
 use Rattle.changes.specs.Refusals.{listChecked}
 use Rattle.changes.specs.Formed.{ListFormed}
 use Rattle.changes.proofs.Accepted.{listed}
-use Rattle.simulate.specs.Full.{Ready, codes, classIn}
+use Rattle.simulate.specs.Full.{codes, classIn}
+use Rattle.simulate.specs.Pass.{Classifiable}
 use Rattle.simulate.proofs.Answers.{ready}
 use Rattle.simulate.proofs.Theorems.{codes-length, codes-at}
 use Rattle.search.specs.Search.{search}
-use Rattle.visit.specs.Source.{sourceFrom, GatesOnly, inputsKnown}
+use Rattle.visit.specs.Source.{sourceFrom}
+use Rattle.visit.specs.Lent.{inputsKnown, GatesOnly}
 use Rattle.core.specs.Core.{searchOf}
 use Rattle.core.proofs.Cards as cards
 use Rattle.core.proofs.Entry.{known-length, search-is}
@@ -49,7 +51,7 @@ module _ (n l : List ℕ) {sizes : Sizes} (sizes-are : sizes ≡ sizesOf (listCh
   card-formed = formed n (list-formed .netlist-accepted)
 
   -- the change can be simulated in 2,304 bytes
-  pub simulates : Ready n l (sizes .inputs) (sizes .gates) (sizes .width) change 2304
+  pub simulates : Classifiable n l (sizes .inputs) (sizes .gates) (sizes .width) change 2304
   simulates = ready n l is change 2304 early (omega (arith, card-formed .inputs-high, card-formed .gates-high))
 
   codes-few : length (codes n l change) ≡ sizes .inputs + sizes .gates

@@ -1,51 +1,136 @@
--- What the program writes, one piece after the other, is what is to be printed. Assumes nothing.
-use Prim.Native.Nat.{ℕ, _+_, _-_}
+-- What the pieces make is what is to be printed, and they come to an end. Assumes nothing.
+use Prim.Native.Nat.{ℕ, zero, suc, _+_, _-_, _≤_, _<_}
 use native.Mathlib.Omega.{arith}
-use native.Mathlib.Nat.{zero-add}
-use mathlib.Core.Path.{_≡_, refl, sym, _∙_, ap}
-use mathlib.Core.List.{List, _++_, append-assoc, append-nil}
-use lib.ListN.{length, take, drop}
-use lib.Seq.{take-at}
+use native.Mathlib.Nat.{sub-zero}
+use native.Mathlib.Decide.{decLt}
+use mathlib.Core.Path.{_≡_, refl, sym, _∙_, ap, subst}
+use mathlib.Core.Bool.{Bool, true, false, cond}
+use mathlib.Core.List.{List, _++_}
+use borrow.Author.Tests.{le-ltb}
+use lib.Dec.{ltb}
+use lib.ListN.{length, drop, length-append}
+use Rattle.netlist.specs.Netlist.{outputsOf}
 use Rattle.changes.specs.declared.Listed.{Listed}
 use Rattle.changes.specs.declared.Listed.the-variants.{Accepted, Refused}
 use Rattle.changes.specs.Refusals.{listChecked}
-use Rattle.report.specs.Appended.{Appended}
-use Rattle.listing.specs.declared.Head.{Head}
-use Rattle.listing.specs.declared.Page.{Page}
-use Rattle.listing.specs.Listing.{texts, changeLines, firstLine, printedChanges, printedTo, printed}
-use Rattle.listing.specs.Lent.{sizesOf, Headed, Paged}
-use Rattle.listing.proofs.Laws.{texts-join}
+use Rattle.report.specs.Text.{countsLine, verdictLine, refusalLine}
+use Rattle.report.proofs.Lengths.{line-some}
+use Rattle.listing.specs.declared.Progress.{Progress}
+use Rattle.listing.specs.declared.Progress.the-variants.{Start, Change}
+use Rattle.listing.specs.declared.Piece.{Piece}
+use Rattle.listing.specs.Listing.{texts, outputLine, changeLines, firstLine, printedChanges, printed}
+use Rattle.listing.specs.Pieces.{Portion, empty, pieceOf, Written, Pieces, last, more, AllPrinted}
+use Rattle.listing.specs.Lent.{sizesOf}
+use Rattle.listing.proofs.Laws.{texts-join, texts-some, changes-are}
+use Rattle.listing.proofs.Pages.{page-none, reached}
+use Rattle.listing.proofs.Prepared.{card-formed}
 
--- what is appended at the buffer's start are its first bytes
-first-bytes : {a b t : List ℕ} {r : ℕ} → Appended a b 0 r t → take r b ≡ t
-first-bytes {a} {b} {t} {r} p =
-    ap (take r) (p .bytes) ∙ take-at t (drop (0 + length t) a) r (omega (arith, p .after))
+-- a piece is inside the buffer
+pub inside : {piece : Portion} {entry exit : List ℕ} {r : Piece} → Written piece entry exit r → length exit ≡ length entry → r .length ≤ length exit
+inside {piece} {entry} w same =
+    omega (arith, w .length-is, ap length (w .bytes), length-append (piece .text) (drop (length (piece .text)) entry))
 
-module _ (n l entry exit : List ℕ) where
-  -- the first piece is all before change 0
-  pub head-written : (r : Head) → Headed n l entry exit r → take (r .length) exit ≡ printedTo n l 0
-  unfolding printedTo texts
-  head-written r h = first-bytes (h .text) ∙ sym (append-nil _)
+module _ (n l : List ℕ) where
+  -- the changes to print
+  abbrev T : ℕ
+  T = printedChanges (listChecked n l)
 
-  -- a page goes on from change `from` up to its next
-  pub page-written : (changes from : ℕ) (r : Page) → Paged n l entry exit changes from r
-      → printedTo n l from ++ take (r .length) exit ≡ printedTo n l (r .next)
-  unfolding printedTo
-  page-written changes from r p =
-      let first = firstLine (listChecked n l) in
-      let lines = changeLines n l in
-      let more = r .next - from in
-      let up : from + more ≡ r .next = omega (arith, p .some) in
-      ap (λ t. (first ++ texts lines 0 from) ++ t) (first-bytes (p .text))
-      ∙ append-assoc first (texts lines 0 from) (texts lines from more)
-      ∙ ap (λ t. first ++ t)
-      (ap (λ i. texts lines 0 from ++ texts lines i more) (sym (zero-add from)) ∙ texts-join lines 0 from more ∙ ap (texts lines 0) up)
+  output-some : (t o : ℕ) → 1 ≤ length (outputLine n l t o)
+  unfolding outputLine verdictLine
+  output-some t o = line-some _ _
 
--- with the last change all is printed
-pub all-written : (n l : List ℕ) → printedTo n l (sizesOf (listChecked n l) .changes) ≡ printed n l
-unfolding printed sizesOf printedChanges
-all-written n l = ap (printedTo n l) (last (listChecked n l))
-  where
-    last : (listed : Listed) → sizesOf listed .changes ≡ printedChanges listed
-    last (Refused number place) = refl
-    last (Accepted i g o p s t w) = refl
+  -- each has a line, since an accepted card has an output
+  lines-some : (t : ℕ) → t < T → 1 ≤ length (changeLines n l t)
+  unfolding changeLines texts
+  lines-some t early =
+      let sizes = sizesOf (listChecked n l) in
+      let card = card-formed n l {sizes = sizes} refl t (omega (arith, changes-are (listChecked n l) sizes refl)) in
+      go (outputsOf n) (omega (arith, card .outputs-low, card .outputs-are))
+    where
+      go : (outputs : ℕ) → 1 ≤ outputs → 1 ≤ length (texts (outputLine n l t) 0 outputs)
+      go zero h = absurd (omega arith)
+      go (suc k) h = simp length-append (omega (arith, output-some t (0 + k)))
+
+  first-some : 1 ≤ length (firstLine (listChecked n l))
+  unfolding firstLine refusalLine countsLine
+  first-some = go (listChecked n l)
+    where
+      go : (listed : Listed) → 1 ≤ length (firstLine listed)
+      go (Refused number place) = line-some _ _
+      go (Accepted i g o p s t w) = line-some _ _
+
+  -- what is left to print falls with each piece that is not empty
+  abbrev pub left : Progress → ℕ
+  left Start = suc T
+  left (Change t) = T - t
+
+  pub falls : (room : ℕ) (p : Progress) → 1 ≤ length (pieceOf n l room p .text) → left (pieceOf n l room p .next) < left p
+  unfolding pieceOf texts
+  falls room Start h = go (ltb room 64) h
+    where
+      go : (b : Bool) → let piece = cond b (empty Start) (record { text = firstLine (listChecked n l); next = Change 0 }) in
+          1 ≤ length (piece .text) → left (piece .next) < left Start
+      go true h = absurd (omega arith)
+      go false h = omega arith
+  falls room (Change t) h =
+      let r = reached (changeLines n l) (T - t) t room in
+      rw (r .next-is) (go (r .count) (r .within) (rw (r .text-is) at h))
+    where
+      go : (count : ℕ) → count ≤ T - t → 1 ≤ length (texts (changeLines n l) t count) → T - (t + count) < T - t
+      go zero w h = absurd (omega arith)
+      go (suc k) w h = omega arith
+
+  pub moved : (room : ℕ) (p : Progress) {entry exit : List ℕ} {r : Piece} → Written (pieceOf n l room p) entry exit r → 1 ≤ r .length
+      → left (r .next) < left p
+  moved room p w some = rw (w .next-is) (falls room p (omega (arith, w .length-is)))
+
+  only : {room : ℕ} {p : Progress} {a b : List ℕ} → Pieces n l room p a → Pieces n l room p b → a ≡ b
+  only (last e) (last e′) = refl
+  only (last e) (more some r) = absurd (some e)
+  only (more some r) (last e) = absurd (some e)
+  only {room} {p} (more some r) (more some′ r′) = ap (λ t. pieceOf n l room p .text ++ t) (only r r′)
+
+  module _ (room : ℕ) (enough : 3072 ≤ room) where
+    -- the lines of the changes from t on
+    abbrev lines : ℕ → List ℕ
+    lines t = texts (changeLines n l) t (T - t)
+
+    lines-none : (t : ℕ) → T ≤ t → Pieces n l room (Change t) (lines t)
+    unfolding pieceOf texts
+    lines-none t end =
+        let e : T - t ≡ 0 = omega arith in
+        subst (λ k. Pieces n l room (Change t) (texts (changeLines n l) t k)) (sym e)
+        (last (ap (λ piece. piece .text) (page-none (changeLines n l) (T - t) t room e)))
+
+    lines-more : (t : ℕ) → t < T → ((k : ℕ) → 1 ≤ k → Pieces n l room (Change (t + k)) (lines (t + k))) → Pieces n l room (Change t) (lines t)
+    unfolding pieceOf
+    lines-more t early later =
+        let f = changeLines n l in
+        let r = reached f (T - t) t room in
+        let k = r .count in
+        let some = r .some (omega arith) enough in
+        let up : k + (T - (t + k)) ≡ T - t = omega (arith, r .within) in
+        subst (Pieces n l room (Change t))
+        (ap (λ text. text ++ lines (t + k)) (r .text-is) ∙ texts-join f t k (T - (t + k)) ∙ ap (texts f t) up)
+        (more (λ none. absurd (omega (arith, ap length none, ap length (r .text-is), texts-some f t k (lines-some t early) some)))
+        (subst (λ p. Pieces n l room p (lines (t + k))) (sym (r .next-is)) (later k some)))
+
+    changes-printed : (fuel t : ℕ) → T - t ≤ fuel → Pieces n l room (Change t) (lines t)
+    changes-printed zero t h = lines-none t (omega arith)
+    changes-printed (suc fuel) t h = go (decLt t T) (λ k some early. changes-printed fuel (t + k) (omega arith))
+      where
+        go : Dec (t < T) → ((k : ℕ) → 1 ≤ k → t < T → Pieces n l room (Change (t + k)) (lines (t + k))) → Pieces n l room (Change t) (lines t)
+        go (yes early) later = lines-more t early (λ k some. later k some early)
+        go (no end) later = lines-none t (omega arith)
+
+    whole : Pieces n l room Start (printed n l)
+    unfolding pieceOf printed
+    whole =
+        let first : pieceOf n l room Start ≡ record { text = firstLine (listChecked n l); next = Change 0 } = rw (le-ltb room 64 (omega arith)) in
+        subst (Pieces n l room Start) (ap (λ piece. piece .text ++ texts (changeLines n l) 0 T) first)
+        (more (λ none. absurd (omega (arith, ap length none, ap (λ piece. length (piece .text)) first, first-some)))
+        (subst (λ p. Pieces n l room p (texts (changeLines n l) 0 T)) (sym (ap (λ piece. piece .next) first)) (rw sub-zero at (changes-printed T 0 (omega arith)))))
+
+  pub all-printed : (room : ℕ) → AllPrinted n l room
+  all-printed room enough text =
+      (λ pieces. only pieces (whole room enough), λ e. subst (Pieces n l room Start) (sym e) (whole room enough))

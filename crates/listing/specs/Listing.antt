@@ -16,6 +16,7 @@ unfoldable pub texts : (f : ℕ → List ℕ) → (i n : ℕ) → List ℕ
 texts f i zero = []
 texts f i (suc n) = texts f i n ++ f (i + n)
 
+-- a verdict's word is `clean` or `hazard`
 abbrev pub isClean : Verdict → Bool
 isClean (clean k) = true
 isClean hazardous = false
@@ -40,9 +41,6 @@ unfoldable pub printedChanges : Listed → ℕ
 printedChanges (Refused number place) = 0
 printedChanges (Accepted inputs gates outputs pins entries changes width) = changes
 
--- what is printed before the lines of change t, and all that is printed
-unfoldable pub printedTo : (netlist list : List ℕ) → (t : ℕ) → List ℕ
-printedTo n l t = firstLine (listChecked n l) ++ texts (changeLines n l) 0 t
-
+-- all that is printed
 unfoldable pub printed : (netlist list : List ℕ) → List ℕ
-printed n l = printedTo n l (printedChanges (listChecked n l))
+printed n l = firstLine (listChecked n l) ++ texts (changeLines n l) 0 (printedChanges (listChecked n l))

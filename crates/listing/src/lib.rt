@@ -1,38 +1,42 @@
-// What the program prints, made in a lent buffer: the first line, then the lines of the changes, a page at a time.
+// What the program prints, a piece at a time in a lent buffer: the first line, then the lines of as many changes as have room.
 ghost use mathlib.Core.Path.{_≡_};
 ghost use Prim.Native.Nat.{_+_, _≤_, _<_};
 ghost use lib.ListN.{length};
 ghost use Rattle.changes.specs.Refusals.{listChecked};
 ghost use Rattle.report.specs.Appended.{Appended};
-ghost use Rattle.listing.specs.Listing.{texts, changeLines, firstLine};
-ghost use Rattle.listing.specs.Lent.{sizesOf, cleanVerdict, lineFrom, Lined, Tabled, Headed, Paged};
+ghost use Rattle.listing.specs.Listing.{texts, isClean, changeLines, firstLine};
+ghost use Rattle.listing.specs.Pieces.{pieceOf, Written};
+ghost use Rattle.listing.specs.Lent.{sizesOf, verdictOf, lineFrom, Lined, Tabled};
 use changes::Listed;
 use core::CLEAN_SET;
 use visit::Verdict;
 
+// The most bytes of the first line.
+const LINE: usize = 64;
+
 // The most bytes of a change's lines: 64 lines of at most 48 bytes.
 const ROOM: usize = 3072;
 
+// Where the next piece begins: at the first line, or at a change's lines.
+pub enum Progress {
+    Start,
+    Change(usize),
+}
+
+// A piece in the buffer: its length, and where the next begins. An empty one is the last.
+pub struct Piece {
+    pub length: usize,
+    pub next: Progress,
+}
+
 // The sizes of an accepted card and its list; no changes on a refusal.
-pub struct Sizes {
-    pub inputs: usize,
-    pub gates: usize,
-    pub outputs: usize,
-    pub entries: usize,
-    pub changes: usize,
-    pub width: usize,
-}
-
-// What the first line leaves: its length, and the sizes for the lines that follow.
-pub struct Head {
-    pub length: usize,
-    pub sizes: Sizes,
-}
-
-// What a page leaves: its length, and the change that the next page begins with.
-pub struct Page {
-    pub length: usize,
-    pub next: usize,
+struct Sizes {
+    inputs: usize,
+    gates: usize,
+    outputs: usize,
+    entries: usize,
+    changes: usize,
+    width: usize,
 }
 
 fn sizes_of(listed: Listed) -> Sizes
@@ -66,18 +70,13 @@ fn sizes_of(listed: Listed) -> Sizes
     }
 }
 
-// Checks the card and its list, and writes the line of the counts, or of the refusal, at the buffer's start.
-pub fn put_head(netlist: &[u8], list: &[u8], buffer: &mut [u8]) -> Head
+// The line of the counts, or of the refusal.
+fn put_line(netlist: &[u8], list: &[u8], buffer: &mut [u8]) -> usize
     requires { ⌜ 64 ≤ length (now buffer) ⌝ }
-    ensures { λ r. ⌜ Headed (now (netlist .entry)) (now (list .entry)) (now (buffer .entry)) (now (buffer .exit)) r ⌝ }
+    ensures { λ r. ⌜ Appended (now (buffer .entry)) (now (buffer .exit)) 0 r (firstLine (listChecked (now (netlist .entry)) (now (list .entry)))) ⌝ }
 {
-    let listed = changes::check(netlist, list);
-    let sizes = sizes_of(listed);
-    match listed {
-        Listed::Refused(number, place) => Head {
-            length: report::put_refusal(buffer, 0, number, place),
-            sizes: sizes,
-        },
+    match changes::check(netlist, list) {
+        Listed::Refused(number, place) => report::put_refusal(buffer, 0, number, place),
         Listed::Accepted {
             inputs,
             gates,
@@ -86,15 +85,27 @@ pub fn put_head(netlist: &[u8], list: &[u8], buffer: &mut [u8]) -> Head
             entries: _,
             changes,
             width: _,
-        } => Head {
-            length: report::put_counts(buffer, 0, inputs, gates, outputs, changes),
-            sizes: sizes,
-        },
+        } => report::put_counts(buffer, 0, inputs, gates, outputs, changes),
+    }
+}
+
+fn put_first(netlist: &[u8], list: &[u8], buffer: &mut [u8]) -> Piece
+    ensures { λ r. ⌜ Written (pieceOf (now (netlist .entry)) (now (list .entry)) (length (now (buffer .entry))) Progress.Start) (now (buffer .entry)) (now (buffer .exit)) r ⌝ }
+{
+    if buffer.len() < LINE {
+        return Piece {
+            length: 0,
+            next: Progress::Start,
+        };
+    }
+    Piece {
+        length: put_line(netlist, list, buffer),
+        next: Progress::Change(0),
     }
 }
 
 fn is_clean(verdict: Verdict) -> bool
-    ensures { λ r. ⌜ r ≡ cleanVerdict verdict ⌝ }
+    ensures { λ r. ⌜ r ≡ isClean (verdictOf verdict) ⌝ }
 {
     match verdict {
         Verdict::Clean { class: _ } => true,
@@ -243,14 +254,14 @@ fn put_page(
     sizes: Sizes,
     from: usize,
     buffer: &mut [u8],
-) -> Page
+) -> Piece
     requires { ⌜ Tabled (now images) (now wanteds) (now table) (now netlist) (now list) (now places) sizes ⌝ }
-    requires { ⌜ (from < sizes .changes) × (3072 ≤ length (now buffer)) ⌝ }
-    ensures { λ r. ⌜ Paged (now (netlist .entry)) (now (list .entry)) (now (buffer .entry)) (now (buffer .exit)) (sizes .changes) from r ⌝ }
+    requires { ⌜ from < sizes .changes ⌝ }
+    ensures { λ r. ⌜ Written (pieceOf (now (netlist .entry)) (now (list .entry)) (length (now (buffer .entry))) (Progress.Change from)) (now (buffer .entry)) (now (buffer .exit)) r ⌝ }
 {
     let mut change = from;
     let mut at: usize = 0;
-    loop {
+    while ROOM <= buffer.len() - at {
         at = put_change(
             images,
             wanteds,
@@ -267,29 +278,24 @@ fn put_page(
         if change == sizes.changes {
             break;
         }
-        if buffer.len() - at < ROOM {
-            break;
-        }
     }
-    Page {
+    Piece {
         length: at,
-        next: change,
+        next: Progress::Change(change),
     }
 }
 
-// Writes the lines of the changes from `from` on at the buffer's start, as many as have room. The sizes are those of the first line's check:
-// nothing is checked again.
-pub fn put_changes(
-    netlist: &[u8],
-    list: &[u8],
-    sizes: Sizes,
-    from: usize,
-    buffer: &mut [u8],
-) -> Page
-    requires { ⌜ sizes ≡ sizesOf (listChecked (now netlist) (now list)) ⌝ }
-    requires { ⌜ (from < sizes .changes) × (3072 ≤ length (now buffer)) ⌝ }
-    ensures { λ r. ⌜ Paged (now (netlist .entry)) (now (list .entry)) (now (buffer .entry)) (now (buffer .exit)) (sizes .changes) from r ⌝ }
+// The card is checked, its records are indexed and the tables are made once for a piece.
+fn put_changes(netlist: &[u8], list: &[u8], from: usize, buffer: &mut [u8]) -> Piece
+    ensures { λ r. ⌜ Written (pieceOf (now (netlist .entry)) (now (list .entry)) (length (now (buffer .entry))) (Progress.Change from)) (now (buffer .entry)) (now (buffer .exit)) r ⌝ }
 {
+    let sizes = sizes_of(changes::check(netlist, list));
+    if sizes.changes <= from {
+        return Piece {
+            length: 0,
+            next: Progress::Change(from),
+        };
+    }
     let images = tables::images();
     let wanteds = tables::wanted_table();
     let table = tables::gate_table();
@@ -306,4 +312,14 @@ pub fn put_changes(
         from,
         buffer,
     )
+}
+
+// Writes the next piece at the buffer's start: nothing more where all is printed, or where the buffer is too short for a piece.
+pub fn next_piece(netlist: &[u8], list: &[u8], progress: Progress, buffer: &mut [u8]) -> Piece
+    ensures { λ r. ⌜ Written (pieceOf (now (netlist .entry)) (now (list .entry)) (length (now (buffer .entry))) progress) (now (buffer .entry)) (now (buffer .exit)) r ⌝ }
+{
+    match progress {
+        Progress::Start => put_first(netlist, list, buffer),
+        Progress::Change(change) => put_changes(netlist, list, change, buffer),
+    }
 }

@@ -2,7 +2,7 @@
 use Prim.Native.Nat.{ℕ, zero, suc, _+_, _*_, _≤_, _<_}
 use native.Mathlib.Omega.{arith}
 use native.Mathlib.Nat.{add-zero, zero-add}
-use mathlib.Core.Path.{_≡_, refl}
+use mathlib.Core.Path.{_≡_}
 use mathlib.Core.Bool.{Bool, true, false, cond}
 use mathlib.Core.List.{List}
 use borrow.Author.Tests.{leb-false, ltb-false}
@@ -10,11 +10,13 @@ use lib.Dec.{leb}
 use lib.ListN.{length}
 use Rattle.circuit.specs.Circuit.{Each}
 use Rattle.words.specs.Words.{wordAt, wordsAt}
+use Rattle.words.specs.Refusal.{refuse}
 use Rattle.words.proofs.Laws.{within}
+use Rattle.words.proofs.Refusal as words
 use Rattle.netlist.specs.declared.Checked.{Checked}
-use Rattle.netlist.specs.declared.Checked.the-variants.{Accepted}
+use Rattle.netlist.specs.declared.Checked.the-variants.{Accepted, Refused}
 use Rattle.netlist.specs.Netlist.{inputsOf, gatesOf, outputsOf, kindAt, countAt, pinAt, placeOf, pinsBelow, pinTotal, entriesAt, outputsEnd, cardOf}
-use Rattle.netlist.specs.Netlist.{refuse, wordsBelow, noKind, leastPins, mostPins, recordAt, recordsFrom}
+use Rattle.netlist.specs.Netlist.{wordsBelow, noKind, leastPins, mostPins, recordAt, recordsFrom}
 use Rattle.netlist.specs.Netlist.{opening, counts, outputs, accepted, body, bodyWithin, checkedWithin, checked}
 use Rattle.netlist.specs.Formed.{RecordFormed, Formed}
 use Rattle.netlist.proofs.Laws.{place-pins}
@@ -66,10 +68,8 @@ module _ (i g o p e : ℕ) where
   abbrev Passed : Checked → Type 0
   Passed answer = answer ≡ Accepted i g o p e
 
-  passed : (b : Bool) (number place : ℕ) (next : Checked) → Passed (refuse b number place next) → (b ≡ false) × Passed next
-  unfolding refuse
-  passed true number place next h = let z : _≡_ {A = ℕ} 0 1 = cc in absurd (omega arith)
-  passed false number place next h = (refl, h)
+  passed : (b : Bool) (number place : ℕ) (next : Checked) → Passed (refuse Refused b number place next) → (b ≡ false) × Passed next
+  passed b number place next = words.passed Refused b number place next (Accepted i g o p e) (λ d. let z : _≡_ {A = ℕ} 0 1 = cc in absurd (omega arith))
 
   words-passed : (n : ℕ) (s : List ℕ) (at bound number : ℕ) (next : Checked) → Passed (wordsBelow n s at bound number next)
       → ((k : ℕ) → k < n → wordAt s (at + 2 * k) < bound) × Passed next

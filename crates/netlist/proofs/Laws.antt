@@ -1,58 +1,17 @@
--- Laws of kinds, pin limits and the places of records. Assumes nothing.
+-- Laws of the places of records. Assumes nothing.
 use Prim.Native.Nat.{ℕ, zero, suc, _+_, _-_, _*_, _≤_, _<_}
 use native.Mathlib.Omega.{arith}
 use native.Mathlib.Nat.{add-zero, add-suc, le-refl}
 use native.Mathlib.Numerals.{add-one}
-use mathlib.Core.Path.{_≡_, refl, sym, _∙_}
+use mathlib.Core.Path.{_≡_, refl, _∙_}
 use mathlib.Core.List.{List, [], _∷_, _++_, append-assoc}
-use mathlib.Core.Bool.{Bool, true, false, cond}
-use borrow.Author.Tests.{ltb-true, ltb-false, le-leb, lt-leb}
-use lib.Dec.{leb, ltb}
+use mathlib.Core.Bool.{Bool, true, false}
+use borrow.Author.Tests.{ltb-true, ltb-false}
+use lib.Dec.{ltb}
 use lib.ListN.{length, getD, drop, set, length-append, length-drop, List·getD-append}
 use lib.Seq.{drop-cons, set-at, getD-at}
-use Rattle.words.specs.Words.{outside}
-use Rattle.words.proofs.Laws.{inside}
-use Rattle.netlist.specs.Netlist.{countAt, pastRecord, placeOf, placesOf, pinsBelow, noKind, leastPins, mostPins}
-
--- the kinds' pin limits
-pub limits-one : (kind : ℕ) → 1 ≤ kind → kind < 3 → (1 ≡ cond (noKind kind) 0 (leastPins kind)) × (1 ≡ cond (noKind kind) 0 (mostPins kind))
-unfolding noKind leastPins mostPins
-limits-one kind l h =
-    let d : outside 1 6 kind ≡ false = inside 1 6 kind l (omega arith) in
-    let e : leb kind 2 ≡ true = le-leb kind 2 (omega arith) in
-    (rw (d, e), rw (d, e))
-
-pub limits-many : (kind : ℕ) → 3 ≤ kind → kind < 7 → (2 ≡ cond (noKind kind) 0 (leastPins kind)) × (8 ≡ cond (noKind kind) 0 (mostPins kind))
-unfolding noKind leastPins mostPins
-limits-many kind l h =
-    let d : outside 1 6 kind ≡ false = inside 1 6 kind (omega arith) (omega arith) in
-    let e : leb kind 2 ≡ false = lt-leb kind 2 (omega arith) in
-    (rw (d, e), rw (d, e))
-
-pub limits-none : (kind : ℕ) → noKind kind ≡ true → (0 ≡ cond (noKind kind) 0 (leastPins kind)) × (0 ≡ cond (noKind kind) 0 (mostPins kind))
-limits-none kind e = (rw e, rw e)
-
--- a kind has at least one pin, so its limits tell whether the byte is one
-pub most-none : (kind most : ℕ) → most ≡ cond (noKind kind) 0 (mostPins kind) → most ≡ 0 → noKind kind ≡ true
-unfolding mostPins
-most-none kind most m z = go (noKind kind) (leb kind 2) (sym m ∙ z)
-  where
-    go : (b d : Bool) → _≡_ {A = ℕ} (cond b 0 (cond d 1 8)) 0 → b ≡ true
-    go true d e = refl
-    go false true e = absurd (omega arith)
-    go false false e = absurd (omega arith)
-
-pub most-some : (kind most : ℕ) → most ≡ cond (noKind kind) 0 (mostPins kind) → (most ≡ 0 → ⊥) → noKind kind ≡ false
-most-some kind most m z = go (noKind kind) (λ e. z (m ∙ e))
-  where
-    go : (b : Bool) → (cond b 0 (mostPins kind) ≡ 0 → ⊥) → b ≡ false
-    go true h = absurd (h refl)
-    go false h = refl
-
--- the test of a count against the limits that were read
-pub limits-read : (kind count : ℕ) {least most : ℕ} {r : Bool} → noKind kind ≡ false → least ≡ cond (noKind kind) 0 (leastPins kind)
-    → most ≡ cond (noKind kind) 0 (mostPins kind) → r ≡ outside least most count → outside (leastPins kind) (mostPins kind) count ≡ r
-limits-read kind count k l m e = sym (rw (l, m, k) at e)
+use Rattle.netlist.specs.Netlist.{countAt, pastRecord, placeOf, pinsBelow}
+use Rattle.netlist.specs.Index.{placesOf}
 
 -- the next record's place, and the pins below it
 pub place-next : (s : List ℕ) (g at : ℕ) → at ≡ placeOf s g → pastRecord s at ≡ placeOf s (g + 1)

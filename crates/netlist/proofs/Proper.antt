@@ -9,15 +9,17 @@ use borrow.Author.Tests.{lt-leb, le-ltb, ltb-false, eqb-true, not-false}
 use lib.ListN.{length}
 use Rattle.circuit.specs.Circuit.{Each}
 use Rattle.words.specs.Words.{wordAt, outside}
+use Rattle.words.specs.Refusal.{refuse}
 use Rattle.words.proofs.Laws.{inside}
+use Rattle.words.proofs.Refusal.{pass}
 use Rattle.netlist.specs.declared.Checked.{Checked}
 use Rattle.netlist.specs.declared.Checked.the-variants.{Accepted, Refused}
 use Rattle.netlist.specs.Netlist.{inputsOf, gatesOf, outputsOf, kindAt, countAt, placeOf, entriesAt, outputsEnd}
-use Rattle.netlist.specs.Netlist.{refuse, wordsBelow, noKind, leastPins, mostPins, recordAt, recordsFrom}
+use Rattle.netlist.specs.Netlist.{wordsBelow, noKind, leastPins, mostPins, recordAt, recordsFrom}
 use Rattle.netlist.specs.Netlist.{opening, counts, outputs, accepted, body, bodyWithin, checkedWithin, checked}
 use Rattle.netlist.specs.Proper.{ProperRecord, Proper, Condition, when, firstMet}
 use Rattle.netlist.specs.Proper.{wordConditions, headConditions, recordConditions, recordsConditions, outputConditions, conditions}
-use Rattle.netlist.proofs.Refusals.{pass, opening-pass, counts-inputs, counts-gates, counts-pass, body-within}
+use Rattle.netlist.proofs.Refusals.{opening-pass, counts-inputs, counts-gates, counts-pass, body-within}
 use Rattle.netlist.proofs.Accepted.{formed}
 
 -- proper bytes pass each step of the chain
@@ -26,16 +28,16 @@ words-proper : (n : ℕ) (s : List ℕ) (at bound number : ℕ) (next : Checked)
 unfolding wordsBelow
 words-proper zero s at bound number next h = refl
 words-proper (suc n) s at bound number next h =
-    pass _ _ _ _ (lt-leb bound (wordAt s at) (rw add-zero at (h 0 (omega arith))))
+    pass _ _ _ _ _ (lt-leb bound (wordAt s at) (rw add-zero at (h 0 (omega arith))))
     ∙ words-proper n s (at + 2) bound number next (λ k l. let e : at + 2 * suc k ≡ at + 2 + 2 * k = omega arith in rw e at (h (suc k) (omega arith)))
 
 record-proper : (s : List ℕ) (signal at : ℕ) (next : Checked) → ProperRecord s signal at → recordAt s signal at next ≡ next
 unfolding recordAt noKind
 record-proper s signal at next r =
-    pass _ _ _ _ (le-ltb (length s) (at + 2) (omega (arith, r .room)))
-    ∙ pass _ _ _ _ (inside 1 6 (kindAt s at) (r .kind-low) (r .kind-high))
-    ∙ pass _ _ _ _ (inside (leastPins (kindAt s at)) (mostPins (kindAt s at)) (countAt s at) (r .count-low) (r .count-high))
-    ∙ pass _ _ _ _ (le-ltb (length s) _ (r .room))
+    pass _ _ _ _ _ (le-ltb (length s) (at + 2) (omega (arith, r .room)))
+    ∙ pass _ _ _ _ _ (inside 1 6 (kindAt s at) (r .kind-low) (r .kind-high))
+    ∙ pass _ _ _ _ _ (inside (leastPins (kindAt s at)) (mostPins (kindAt s at)) (countAt s at) (r .count-low) (r .count-high))
+    ∙ pass _ _ _ _ _ (le-ltb (length s) _ (r .room))
     ∙ words-proper (countAt s at) s (at + 2) signal 8 next (r .pin-below)
 
 records-proper : (n g : ℕ) (s : List ℕ) (next : Checked) → ((k : ℕ) → k < n → ProperRecord s (inputsOf s + (g + k)) (placeOf s (g + k)))
@@ -49,9 +51,9 @@ records-proper (suc n) g s next h =
 outputs-proper : (s : List ℕ) (next : Checked) → Proper s → outputs s next ≡ next
 unfolding outputs
 outputs-proper s next p =
-    pass _ _ _ _ (le-ltb (length s) (outputsEnd s) (omega (arith, p .whole)))
+    pass _ _ _ _ _ (le-ltb (length s) (outputsEnd s) (omega (arith, p .whole)))
     ∙ words-proper (outputsOf s) s (entriesAt s) (inputsOf s + gatesOf s) 9 _ (p .output-below)
-    ∙ pass _ _ _ _ (le-ltb (outputsEnd s) (length s) (omega (arith, p .whole)))
+    ∙ pass _ _ _ _ _ (le-ltb (outputsEnd s) (length s) (omega (arith, p .whole)))
 
 pub proper→accepted : (s : List ℕ) → Proper s → checked s ≡ accepted s
 unfolding checked checkedWithin body

@@ -1,13 +1,13 @@
 -- Document 01, "The card netlist": what the bytes say, and, from "Turned back, by operation", when they are refused.
-use Prim.Native.Nat.{ℕ, zero, suc, _+_, _-_, _*_, _≤_}
-use mathlib.Core.Path.{_≡_}
+use Prim.Native.Nat.{ℕ, zero, suc, _+_, _*_}
 use mathlib.Core.Bool.{Bool, cond, not, _||_}
-use mathlib.Core.List.{List, [], _∷_, _++_}
+use mathlib.Core.List.{List}
 use lib.Dec.{eqb, leb, ltb}
 use lib.ListN.{length}
 use Rattle.kung.specs.Rule.{Kind, kindOf}
 use Rattle.circuit.specs.Circuit.{Card}
 use Rattle.words.specs.Words.{byteAt, wordAt, wordsAt, marked, outside}
+use Rattle.words.specs.Refusal.{refuse}
 use Rattle.netlist.specs.declared.Checked.{Checked}
 use Rattle.netlist.specs.declared.Checked.the-variants.{Accepted, Refused}
 
@@ -41,11 +41,6 @@ unfoldable pub placeOf : List ℕ → ℕ → ℕ
 placeOf s zero = 11
 placeOf s (suc g) = pastRecord s (placeOf s g)
 
--- the places of the first n gates' records
-unfoldable pub placesOf : List ℕ → (n : ℕ) → List ℕ
-placesOf s zero = []
-placesOf s (suc n) = placesOf s n ++ (placeOf s n ∷ [])
-
 -- the pins of the gates below g together
 unfoldable pub pinsBelow : List ℕ → ℕ → ℕ
 pinsBelow s zero = 0
@@ -76,31 +71,26 @@ gatePins s g = wordsAt (countAt s (placeOf s g)) s (placeOf s g + 2)
 unfoldable pub cardOf : List ℕ → Card
 cardOf s = record { inputs = inputsOf s; gates = gatesOf s; kind = gateKind s; pins = gatePins s }
 
--- "A refusal is a number and a byte place. In the order below, the first condition met is the refusal; where none is met there is none.
--- The place of a two-byte field is its first byte."
-unfoldable pub refuse : Bool → (number place : ℕ) → Checked → Checked
-refuse test number place next = cond test (Refused number place) next
-
 -- "Netlist: under 11 bytes 1 (place: the length); mark 2 (0); version 3 (3);"
 unfoldable pub opening : (version : ℕ) → List ℕ → Checked → Checked
 opening version s next =
-    refuse (ltb (length s) 11) 1 (length s)
-    (refuse (not (marked s 0x4C 0x43 0x4E)) 2 0
-    (refuse (not (eqb (wordAt s 3) version)) 3 3
+    refuse Refused (ltb (length s) 11) 1 (length s)
+    (refuse Refused (not (marked s 0x4C 0x43 0x4E)) 2 0
+    (refuse Refused (not (eqb (wordAt s 3) version)) 3 3
     next))
 
 -- "I, G, O out of range 4 (5, 7, 9)."
 unfoldable pub counts : List ℕ → Checked → Checked
 counts s next =
-    refuse (outside 1 256 (inputsOf s)) 4 5
-    (refuse (outside 0 2048 (gatesOf s)) 4 7
-    (refuse (outside 1 64 (outputsOf s)) 4 9
+    refuse Refused (outside 1 256 (inputsOf s)) 4 5
+    (refuse Refused (outside 0 2048 (gatesOf s)) 4 7
+    (refuse Refused (outside 1 64 (outputsOf s)) 4 9
     next))
 
 -- the n words from `at` on in turn: the first not below the bound is refused
 unfoldable pub wordsBelow : (n : ℕ) → List ℕ → (at bound number : ℕ) → Checked → Checked
 wordsBelow zero s at bound number next = next
-wordsBelow (suc n) s at bound number next = refuse (leb bound (wordAt s at)) number at (wordsBelow n s (at + 2) bound number next)
+wordsBelow (suc n) s at bound number next = refuse Refused (leb bound (wordAt s at)) number at (wordsBelow n s (at + 2) bound number next)
 
 -- "Kinds 1 and 2 take one pin, 3 to 6 take two to eight."
 unfoldable pub noKind : (kind : ℕ) → Bool
@@ -116,29 +106,16 @@ mostPins kind = cond (leb kind 2) 1 8
 -- below its gate 8 (that pin)"
 unfoldable pub recordAt : List ℕ → (signal at : ℕ) → Checked → Checked
 recordAt s signal at next =
-    refuse (ltb (length s) (at + 2)) 5 at
-    (refuse (noKind (kindAt s at)) 6 at
-    (refuse (outside (leastPins (kindAt s at)) (mostPins (kindAt s at)) (countAt s at)) 7 (at + 1)
-    (refuse (ltb (length s) (pastRecord s at)) 5 at
+    refuse Refused (ltb (length s) (at + 2)) 5 at
+    (refuse Refused (noKind (kindAt s at)) 6 at
+    (refuse Refused (outside (leastPins (kindAt s at)) (mostPins (kindAt s at)) (countAt s at)) 7 (at + 1)
+    (refuse Refused (ltb (length s) (pastRecord s at)) 5 at
     (wordsBelow (countAt s at) s (at + 2) signal 8
     next))))
-
--- how many of the n words from `at` on stand before the first that is not below the bound
-unfoldable pub leading : (n : ℕ) → List ℕ → (at bound : ℕ) → ℕ
-leading zero s at bound = 0
-leading (suc n) s at bound = cond (leb bound (wordAt s at)) 0 (suc (leading n s (at + 2) bound))
 
 -- no kind, or one that does not take so many pins
 unfoldable pub unfit : (kind count : ℕ) → Bool
 unfit kind count = noKind kind || outside (leastPins kind) (mostPins kind) count
-
--- the pin count of a record that has room for eight pins and is not refused; 0 of any other
-unfoldable pub plainCount : List ℕ → (signal at : ℕ) → ℕ
-plainCount s signal at =
-    cond (ltb (length s) (at + 18)) 0
-    (cond (unfit (kindAt s at) (countAt s at)) 0
-    (cond (ltb (leading 8 s (at + 2) signal) (countAt s at)) 0
-    (countAt s at)))
 
 -- the n records from gate g's on; "the first bad pin ends the reading of all records"
 unfoldable pub recordsFrom : (n g : ℕ) → List ℕ → Checked → Checked
@@ -148,9 +125,9 @@ recordsFrom (suc n) g s next = recordAt s (inputsOf s + g) (placeOf s g) (record
 -- "Then output entries cut off 5 (their start); entry not below I + G 9 (it); bytes left 10 (the first)."
 unfoldable pub outputs : List ℕ → Checked → Checked
 outputs s next =
-    refuse (ltb (length s) (outputsEnd s)) 5 (entriesAt s)
+    refuse Refused (ltb (length s) (outputsEnd s)) 5 (entriesAt s)
     (wordsBelow (outputsOf s) s (entriesAt s) (inputsOf s + gatesOf s) 9
-    (refuse (ltb (outputsEnd s) (length s)) 10 (outputsEnd s)
+    (refuse Refused (ltb (outputsEnd s) (length s)) 10 (outputsEnd s)
     next))
 
 unfoldable pub accepted : List ℕ → Checked
@@ -160,18 +137,9 @@ accepted s = Accepted (inputsOf s) (gatesOf s) (outputsOf s) (pinTotal s) (entri
 unfoldable pub body : List ℕ → Checked
 body s = recordsFrom (gatesOf s) 0 s (outputs s (accepted s))
 
--- gate `gate` is reached: its record's place, the pins below it, and what is left of the check
-pub record Reached (s : List ℕ) (gates gate at pins : ℕ) : Type 0 where
-  pub gate-high : gate ≤ gates
-  pub place-is : at ≡ placeOf s gate
-  pub pins-are : pins ≡ pinsBelow s gate
-  pub place-high : at ≤ length s + 11
-  pub pins-high : pins ≤ at
-  pub left : body s ≡ recordsFrom (gates - gate) gate s (outputs s (accepted s))
-
 -- A caller may keep fewer signals than document 01 allows (23, place 5). One that keeps 256 + 2,048 of them never meets this limit.
 unfoldable pub bodyWithin : (limit : ℕ) → List ℕ → Checked
-bodyWithin limit s = refuse (ltb limit (inputsOf s + gatesOf s)) 23 5 (body s)
+bodyWithin limit s = refuse Refused (ltb limit (inputsOf s + gatesOf s)) 23 5 (body s)
 
 unfoldable pub checkedWithin : (limit version : ℕ) → List ℕ → Checked
 checkedWithin limit version s = opening version s (counts s (bodyWithin limit s))

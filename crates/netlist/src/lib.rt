@@ -1,13 +1,14 @@
 // Card netlists: the check with its refusals, the index of the records' places, and readers.
 ghost use mathlib.Core.Path.{_≡_};
 ghost use mathlib.Core.List.{_++_};
-ghost use mathlib.Core.Bool.{cond};
 ghost use Prim.Native.Nat.{_+_, _*_, _≤_};
 ghost use lib.ListN.{length, drop};
 ghost use Rattle.words.specs.Words.{wordAt};
-ghost use Rattle.netlist.specs.Netlist.{kindAt, countAt, placeOf, placesOf, pinTotal, entriesAt};
-ghost use Rattle.netlist.specs.Netlist.{gatesOf, leading, unfit, plainCount, Reached};
-ghost use Rattle.netlist.specs.Netlist.{noKind, leastPins, mostPins, counts, outputs, accepted, body, bodyWithin, checked};
+ghost use Rattle.netlist.specs.Netlist.{inputsOf, gatesOf, kindAt, countAt, placeOf, pinTotal, entriesAt, unfit};
+ghost use Rattle.netlist.specs.Netlist.{counts, outputs, accepted, body, bodyWithin, checked};
+ghost use Rattle.netlist.specs.Meaning.{meaningOf};
+ghost use Rattle.netlist.specs.Reading.{leading, belowAtOnce, headAt};
+ghost use Rattle.netlist.specs.Index.{placesOf};
 use words::byte_at;
 use words::is_outside;
 use words::word_at;
@@ -25,20 +26,49 @@ pub enum Checked {
     Refused(u8, usize),
 }
 
-// How many pins a kind takes; none where the byte is no kind.
-struct PinLimits {
-    least: usize,
-    most: usize,
+// What a kind byte means: how many pins it takes, its operation (0 AND, 1 OR) and whether it inverts. A byte that is no kind has limits
+// that no pin count meets.
+pub struct Meaning {
+    pub least: usize,
+    pub most: usize,
+    pub operation: u8,
+    pub inverts: bool,
 }
 
-fn pin_limits(kind: u8) -> PinLimits
-    ensures { λ r. ⌜ (r .least ≡ cond (noKind kind) 0 (leastPins kind)) × (r .most ≡ cond (noKind kind) 0 (mostPins kind)) ⌝ }
+// Kinds are told from other bytes first: then no jump depends on which kind it is.
+pub fn meaning_of(kind: u8) -> Meaning
+    ensures { λ r. ⌜ r ≡ meaningOf kind ⌝ }
 {
     match kind {
-        1..=2 => PinLimits { least: 1, most: 1 },
-        3..=6 => PinLimits { least: 2, most: 8 },
-        _ => PinLimits { least: 0, most: 0 },
+        1..=6 => match kind {
+            1..=2 => Meaning {
+                least: 1,
+                most: 1,
+                operation: 0,
+                inverts: kind == 1,
+            },
+            _ => Meaning {
+                least: 2,
+                most: 8,
+                operation: (kind + 1) % 2,
+                inverts: 4 < kind,
+            },
+        },
+        _ => Meaning {
+            least: 1,
+            most: 0,
+            operation: 0,
+            inverts: false,
+        },
     }
+}
+
+// Whether a byte is no kind, or a kind that does not take so many pins.
+pub fn is_unfit(kind: u8, count: usize) -> bool
+    ensures { λ r. ⌜ r ≡ unfit kind count ⌝ }
+{
+    let meaning = meaning_of(kind);
+    is_outside(meaning.least, meaning.most, count)
 }
 
 // The check from the output entries on, with what was counted on the way.
@@ -74,7 +104,7 @@ fn check_outputs(s: &[u8], pins: usize, at: usize) -> Checked
 
 // How many of the eight words from a place on stand before the first that is not below the bound. It goes from the last to the first, so
 // that no jump depends on a word.
-fn leading_below(s: &[u8], at: usize, bound: usize) -> usize
+fn leading_below(s: &[u8], at: usize, bound: u16) -> usize
     requires { ⌜ at + 16 ≤ length (now s) ⌝ }
     ensures { λ r. ⌜ r ≡ leading 8 (now (s .entry)) at bound ⌝ }
 {
@@ -82,112 +112,86 @@ fn leading_below(s: &[u8], at: usize, bound: usize) -> usize
     let mut k: usize = 8;
     while 0 < k {
         k -= 1;
-        if bound <= word_in(s, at + 2 * k) as usize {
+        if bound <= word_in(s, at + 2 * k) {
             first = k;
         }
     }
     first
 }
 
-// Whether a byte is no kind, or a kind that does not take so many pins. No jump depends on which kind it is.
-pub fn is_unfit(kind: u8, count: usize) -> bool
-    ensures { λ r. ⌜ r ≡ unfit kind count ⌝ }
+// How many words from a place on are seen together to be below the bound: 0 where eight have no room.
+fn below_at_once(s: &[u8], at: usize, bound: u16) -> usize
+    requires { ⌜ at ≤ length (now s) ⌝ }
+    ensures { λ r. ⌜ r ≡ belowAtOnce (now (s .entry)) at bound ⌝ }
 {
-    if is_outside(1, 6, kind as usize) {
-        return true;
+    if s.len() < at + 16 {
+        return 0;
     }
-    if is_outside(1, 8, count) {
-        return true;
-    }
-    (2 < kind) as u8 != (1 < count) as u8
+    leading_below(s, at, bound)
 }
 
-// The pin count of a record that is not refused, where eight pins have room; else 0.
-fn plain_count(s: &[u8], signal: usize, at: usize) -> usize
+// A record up to its pins: how many there are, or the number and place of a refusal.
+enum Head {
+    Pins(usize),
+    Refused(u8, usize),
+}
+
+fn head_at(s: &[u8], at: usize) -> Head
     requires { ⌜ at ≤ length (now s) + 11 ⌝ }
-    ensures { λ r. ⌜ r ≡ plainCount (now (s .entry)) signal at ⌝ }
+    ensures { λ r. ⌜ r ≡ headAt (now (s .entry)) at ⌝ }
 {
-    if s.len() < at + 18 {
-        return 0;
+    if s.len() < at + 2 {
+        return Head::Refused(5, at);
     }
     let second = at + 1;
     let count = s[second] as usize;
-    if is_unfit(s[at], count) {
-        return 0;
+    let meaning = meaning_of(s[at]);
+    if meaning.most == 0 {
+        return Head::Refused(6, at);
     }
-    if leading_below(s, at + 2, signal) < count {
-        return 0;
+    if is_outside(meaning.least, meaning.most, count) {
+        return Head::Refused(7, second);
     }
-    count
+    if s.len() < at + 2 + 2 * count {
+        return Head::Refused(5, at);
+    }
+    Head::Pins(count)
 }
 
-// A gate, its record's place and the pins below it.
-struct Passed {
-    gate: usize,
-    at: usize,
-    pins: usize,
-}
-
-// The records that are passed at once: those before the first that is refused or has no room for eight pins.
-fn pass_records(s: &[u8]) -> Passed
-    ensures { λ r. ⌜ Reached (now (s .entry)) (gatesOf (now (s .entry))) (r .gate) (r .at) (r .pins) ⌝ }
+// The check from the records on. A record's pins are looked at together first, and from where that ends one after the other.
+fn check_records(s: &[u8]) -> Checked
+    requires { ⌜ (inputsOf (now s) ≤ 256) × (gatesOf (now s) ≤ 2048) ⌝ }
+    ensures { λ r. ⌜ r ≡ body (now (s .entry)) ⌝ }
 {
     let inputs = word_at(s, 5) as usize;
     let gates = word_at(s, 7) as usize;
     let mut gate: usize = 0;
     let mut at: usize = 11;
     let mut pins: usize = 0;
-    while gate < gates {
-        let count = plain_count(s, inputs + gate, at);
-        if count == 0 {
-            return Passed { gate, at, pins };
-        }
-        pins += count;
-        at = at + 2 + 2 * count;
-        gate += 1;
-    }
-    Passed { gate, at, pins }
-}
-
-// The check from the records on.
-fn check_records(s: &[u8]) -> Checked
-    ensures { λ r. ⌜ r ≡ body (now (s .entry)) ⌝ }
-{
-    let inputs = word_at(s, 5) as usize;
-    let gates = word_at(s, 7) as usize;
-    let passed = pass_records(s);
-    let mut gate = passed.gate;
-    let mut at = passed.at;
-    let mut pins = passed.pins;
     'records: loop {
         if gate == gates {
             break 'records check_outputs(s, pins, at);
         }
-        if s.len() < at + 2 {
-            break 'records Checked::Refused(5, at);
-        }
-        let second = at + 1;
-        let count = s[second] as usize;
-        let limits = pin_limits(s[at]);
-        if limits.most == 0 {
-            break 'records Checked::Refused(6, at);
-        }
-        if is_outside(limits.least, limits.most, count) {
-            break 'records Checked::Refused(7, second);
-        }
-        let end = at + 2 + 2 * count;
-        if s.len() < end {
-            break 'records Checked::Refused(5, at);
-        }
-        'pins: for k in 0..count {
-            let place = at + 2 + 2 * k;
-            if inputs + gate <= word_in(s, place) as usize {
-                break 'records Checked::Refused(8, place);
+        match head_at(s, at) {
+            Head::Refused(number, place) => break 'records Checked::Refused(number, place),
+            Head::Pins(count) => {
+                let signal = (inputs + gate) as u16;
+                let mut k = below_at_once(s, at + 2, signal);
+                'pins: loop {
+                    if count <= k {
+                        break 'pins;
+                    }
+                    let place = at + 2 + 2 * k;
+                    if signal <= word_in(s, place) {
+                        break 'records Checked::Refused(8, place);
+                    }
+                    k += 1;
+                }
+                pins += count;
+                at = at + 2 + 2 * count;
+                gate += 1;
             }
         }
-        pins += count;
-        at = end;
-        gate += 1;
     }
 }
 

@@ -1,10 +1,11 @@
 -- A bound on each line's length, for callers that must show room. Assumes nothing.
 use mathlib.Core.Bool.{Bool, true, false}
+use mathlib.Core.List.{List, [], _∷_}
 use Prim.Native.Nat.{ℕ, _+_, _^_, _≤_, _<_}
 use native.Mathlib.Omega.{arith}
 use lib.ListN.{length, length-append}
 use Rattle.kung.specs.Class.{Class, c0, c1, R, F, S0, S1, D+, D-, nameOf}
-use Rattle.report.specs.Text.{decimal, countsLine, verdictWord, verdictLine, refusalLine}
+use Rattle.report.specs.Text.{line, countsLine, verdictWord, verdictLine, refusalLine}
 use Rattle.report.proofs.Appending.{line-length}
 use Rattle.report.proofs.Decimal.{decimal-length}
 
@@ -23,7 +24,8 @@ unfolding verdictWord
 word-length true = omega arith
 word-length false = omega arith
 
-pub counts-length : (inputs gates outputs changes : ℕ) → inputs ≤ 256 → gates ≤ 2048 → outputs ≤ 64 → changes ≤ 1000
+-- for counts of at most four digits
+pub counts-length : (inputs gates outputs changes : ℕ) → inputs < 10000 → gates < 10000 → outputs < 10000 → changes < 10000
     → length (countsLine inputs gates outputs changes) ≤ 64
 unfolding countsLine
 counts-length inputs gates outputs changes i g o t =
@@ -31,9 +33,9 @@ counts-length inputs gates outputs changes i g o t =
     (simp length-append
     (omega (
       arith,
-      decimal-length 2 inputs (omega arith),
+      decimal-length 3 inputs (omega arith),
       decimal-length 3 gates (omega arith),
-      decimal-length 1 outputs (omega arith),
+      decimal-length 3 outputs (omega arith),
       decimal-length 3 changes (omega arith),
     )))
 
@@ -58,3 +60,9 @@ pub refusal-length : (number place : ℕ) → number < 2 ^ 8 → place < 2 ^ 64 
 unfolding refusalLine
 refusal-length number place n p =
     rw line-length (simp length-append (omega (arith, decimal-length 2 number (omega arith), decimal-length 19 place (omega arith))))
+
+-- a line has at least its line feed
+pub line-some : (word : List ℕ) (rest : List (List ℕ)) → 1 ≤ length (line word rest)
+unfolding line
+line-some word [] = simp length-append (omega arith)
+line-some word (next ∷ rest) = simp length-append (omega arith)

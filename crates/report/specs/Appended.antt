@@ -1,4 +1,4 @@
--- What a function that appends to a lent buffer does.
+-- What the code that makes a text does: each function appends its part to a lent buffer.
 use mathlib.Core.Path.{_≡_}
 use mathlib.Core.List.{List, _++_}
 use Prim.Native.Nat.{ℕ, _+_, _≤_}

@@ -13,7 +13,7 @@ use Rattle.kung.specs.Rule.{Kind}
 use Rattle.kung.specs.Operation.{opOf, inverts, unit}
 use Rattle.kung.specs.Sets.{wantedFor}
 use Rattle.circuit.specs.Circuit.{Source, given, gate, pinsOf, Each, Falling}
-use Rattle.search.specs.Search.{Cell, new, kept, byteOf, nextOf, visitedOf, cellOf, cellAt, put, fresh, total, possibleOf, pinsLeft, only, Waiting, nobody, waits, checks, toldOr, driverOf, Visit, fetch, takePin, takePins, arrive, visit, begin, search}
+use Rattle.search.specs.Search.{Cell, new, kept, byteOf, nextOf, visitedOf, cellOf, cellAt, put, fresh, total, possibleOf, pinsLeft, only, Waiting, nobody, waits, checks, toldOr, driverOf, Visit, fetch, takePin, takePins, arrive, visit, answerOf, endFrom, search}
 use Rattle.search.specs.Pins.{Closed, pinsAt, sumBelow, pinsIn}
 use Rattle.search.proofs.Laws.{each-drop, length-put, put-same, at-put, nextOf-byteOf, next-new, next-kept, fresh-at, total-fresh}
 use Rattle.search.proofs.Writes.{end-keeps, react-keeps, visit-keeps, visit-length, visit-above}
@@ -64,7 +64,7 @@ module _ (src : ℕ → Source Class) (c : ℕ → Bool) (closed : Closed src c)
   unfolding search
   search-pins w s n here below = go (src s)
     where
-      go : (d : Source Class) → (begin src (suc s) d w s (fresh (suc s))) .pins ≤ pinsIn src c n
+      go : (d : Source Class) → (answerOf w (endFrom src (suc s) d w s (fresh (suc s)))) .pins ≤ pinsIn src c n
       go (given k) = omega arith
       go (gate d ps) =
           let cells = visit src (suc s) s (unit (opOf d)) 0 w nobody (fresh (suc s)) .1 in
@@ -181,7 +181,7 @@ module _ (src : ℕ → Source Class) where
   unfolding search total
   search-gates falling w s = go (src s)
     where
-      go : (d : Source Class) → (begin src (suc s) d w s (fresh (suc s))) .gates ≤ (begin src (suc s) d w s (fresh (suc s))) .pins + 1
+      go : (d : Source Class) → (answerOf w (endFrom src (suc s) d w s (fresh (suc s)))) .gates ≤ (answerOf w (endFrom src (suc s) d w s (fresh (suc s)))) .pins + 1
       go (given k) = omega arith
       go (gate d ps) =
           let none-yet = total-fresh visitedOf refl [] (suc s) in

@@ -15,7 +15,7 @@ use Rattle.kung.proofs.Laws.{joinAll-cons, joinAll-nil, join-unit, join-unit-ri
 use Rattle.kung.proofs.SetLaws.{has-setOf, in-image, in-possible, meets-intro}
 use Rattle.circuit.specs.Circuit.{Source, given, gate, value, Each, Falling}
 use Rattle.circuit.proofs.Laws.{value-law}
-use Rattle.search.specs.Search.{Cell, new, kept, cellOf, cellAt, put, fresh, possibleOf, pinsLeft, only, Waiting, nobody, waits, Outcome, stopped, known, unfinished, sameResult, knownOr, checks, toldOr, driverOf, Ended, Visit, fetch, react, endOr, takePin, takePins, arrive, visit, clean, hazardous, judged, verdictOf, begin, search}
+use Rattle.search.specs.Search.{Cell, new, kept, cellOf, cellAt, put, fresh, possibleOf, pinsLeft, only, Waiting, nobody, waits, Outcome, stopped, known, unfinished, sameResult, knownOr, checks, toldOr, driverOf, Ended, Visit, fetch, react, endOr, takePin, takePins, arrive, visit, clean, hazardous, judged, verdictOf, answerOf, endFrom, search}
 use Rattle.search.proofs.Laws.{at-put, cellOf-byteOf, put-other, only-has, only-last, not-has, meets-elim, drop-next, each-drop, fresh-at}
 
 -- what the waiting gate's p joined with the class k is
@@ -220,7 +220,7 @@ module _ (src : ℕ → Source Class) where
         judge (known j) cells h = rw (h .0, h .1)
         judge (unfinished r) cells h = absurd (h .0)
 
-        go : (c : Source Class) → src s ≡ c → (begin src (suc s) c w s (fresh (suc s))) .verdict ≡ judged w (class s)
+        go : (c : Source Class) → src s ≡ c → (answerOf w (endFrom src (suc s) c w s (fresh (suc s)))) .verdict ≡ judged w (class s)
         go (given k) e = ap (judged w) (sym (class-given s k e))
         go (gate d ps) e =
             let cells = fresh (suc s) in

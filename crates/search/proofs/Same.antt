@@ -13,7 +13,7 @@ use Rattle.kung.specs.Rule.{Kind}
 use Rattle.kung.specs.Operation.{Op, opOf, inverts, join, unit}
 use Rattle.kung.specs.Sets.{wantedFor}
 use Rattle.circuit.specs.Circuit.{Source, given, gate, Each, Falling}
-use Rattle.search.specs.Search.{Cell, kept, byteOf, nextOf, visitedOf, cellOf, cellAt, put, fresh, possibleOf, pinsLeft, Waiting, nobody, waits, Outcome, stopped, known, unfinished, checks, Driver, told, behind, driverOf, Ended, Visit, fetch, react, endOr, takePin, takePins, arrive, visit, answerOf, verdictOf, begin, search}
+use Rattle.search.specs.Search.{Cell, kept, byteOf, nextOf, visitedOf, cellOf, cellAt, put, fresh, possibleOf, pinsLeft, Waiting, nobody, waits, Outcome, stopped, known, unfinished, checks, Driver, told, behind, driverOf, Ended, Visit, fetch, react, endOr, takePin, takePins, arrive, visit, verdictOf, visited, answerOf, endFrom, search}
 use Rattle.search.specs.Pins.{Closed}
 use Rattle.search.proofs.Laws.{each-drop, length-put, total-fresh}
 use Rattle.search.proofs.Writes.{closed-all, visit-length}
@@ -126,8 +126,8 @@ module _ (more : List ℕ) where
             (pins-same s (visit src n) (visit src′ n′) ih (visit-length src′ n′) s d w wt (omega arith) (drop next ps) p next (put cells s (kept p next))
             (each-drop (λ x. x < s) next ps (rw e at (falling s))) (each-drop (λ x. c x ≡ true) next ps (rw e at (closed s here))) (rw length-put fits))
 
-answer-fresh : (ended : Ended) (n : ℕ) → answerOf (onto (fresh n) ended) ≡ answerOf ended
-answer-fresh ended n =
+answer-fresh : (w : ℕ) (ended : Ended) (n : ℕ) → answerOf w (visited (onto (fresh n) ended)) ≡ answerOf w (visited ended)
+answer-fresh w ended n =
     λ i.
     record {
       verdict = verdictOf (ended .0);
@@ -137,22 +137,22 @@ answer-fresh ended n =
 
 module _ (src src′ : ℕ → Source Class) (c : ℕ → Bool) (closed : Closed src c) (agree : (s : ℕ) → c s ≡ true → src s ≡ src′ s) (falling : Falling src) where
   -- Two sources that agree on a closed set give equal searches of its signals, with any number n above the signal, and any number of cells above it.
-  pub search-same : (n m w s : ℕ) → s < n → s < m → c s ≡ true → begin src n (src s) w s (fresh m) ≡ search src′ w s
+  pub search-same : (n m w s : ℕ) → s < n → s < m → c s ≡ true → answerOf w (endFrom src n (src s) w s (fresh m)) ≡ search src′ w s
   unfolding search
   search-same n m w s below fits here = rw (agree s here) (go (src′ s))
     where
       split : fresh m ≡ fresh (suc s) ++ fresh (m - suc s)
       split = sym (replicate-append-replicate (suc s) (m - suc s) 0 ∙ ap fresh (let sum : suc s + (m - suc s) ≡ m = omega arith in sum))
 
-      go : (d : Source Class) → begin src n d w s (fresh m) ≡ begin src′ (suc s) d w s (fresh (suc s))
+      go : (d : Source Class) → answerOf w (endFrom src n d w s (fresh m)) ≡ answerOf w (endFrom src′ (suc s) d w s (fresh (suc s)))
       go (given k) = refl
       go (gate d ps) =
-          ap (λ cells. answerOf (visit src n s (unit (opOf d)) 0 w nobody cells)) split
-          ∙ ap answerOf
+          ap (λ cells. answerOf w (visited (visit src n s (unit (opOf d)) 0 w nobody cells))) split
+          ∙ ap (λ ended. answerOf w (visited ended))
           (visit-same (fresh (m - suc s)) src src′ c agree closed falling n (suc s) s (unit (opOf d)) 0 w nobody (fresh (suc s)) below (omega arith) here
           (rw length-replicate (omega arith)))
-          ∙ answer-fresh (visit src′ (suc s) s (unit (opOf d)) 0 w nobody (fresh (suc s))) (m - suc s)
+          ∙ answer-fresh w (visit src′ (suc s) s (unit (opOf d)) 0 w nobody (fresh (suc s))) (m - suc s)
 
 -- so the search may be run with any number of cells, and any bound, above the signal
-pub search-any : (src : ℕ → Source Class) → Falling src → (n m w s : ℕ) → s < n → s < m → begin src n (src s) w s (fresh m) ≡ search src w s
+pub search-any : (src : ℕ → Source Class) → Falling src → (n m w s : ℕ) → s < n → s < m → answerOf w (endFrom src n (src s) w s (fresh m)) ≡ search src w s
 search-any src falling n m w s below fits = search-same src src (λ s. true) (closed-all src) (λ s h. refl) falling n m w s below fits refl

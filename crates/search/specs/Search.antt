@@ -181,15 +181,25 @@ verdictOf stopped = hazardous
 verdictOf (known k) = clean k
 verdictOf (unfinished r) = hazardous
 
-abbrev pub answerOf : Ended → Answer
-answerOf ended = record { verdict = verdictOf (ended .0); gates = gatesVisited (ended .1); pins = pinsTaken (ended .1) }
+-- How a search ends: with a class that is known without a visit, or as the visit of its gate ends.
+pub data SearchEnd : Type 0 where
+  unvisited : Class → SearchEnd
+  visited : Ended → SearchEnd
+
+-- "An output that is an input is clean, 0 gates, 0 pins."
+abbrev pub answerOf : (wanted : ℕ) → SearchEnd → Answer
+answerOf w (unvisited k) = record { verdict = judged w k; gates = 0; pins = 0 }
+answerOf w (visited ended) = record { verdict = verdictOf (ended .0); gates = gatesVisited (ended .1); pins = pinsTaken (ended .1) }
 
 module _ (src : ℕ → Source Class) where
-  -- "An output that is an input is clean, 0 gates, 0 pins."; "The output's gate is visited"
-  abbrev pub begin : (n : ℕ) → Source Class → (wanted s : ℕ) → List ℕ → Answer
-  begin n (given k) w s cells = record { verdict = judged w k; gates = 0; pins = 0 }
-  begin n (gate d ps) w s cells = answerOf (visit src n s (unit (opOf d)) 0 w nobody cells)
+  -- "The output's gate is visited"
+  abbrev pub endFrom : (n : ℕ) → Source Class → (wanted s : ℕ) → List ℕ → SearchEnd
+  endFrom n (given k) w s cells = unvisited k
+  endFrom n (gate d ps) w s cells = visited (visit src n s (unit (opOf d)) 0 w nobody cells)
 
   -- "Each call starts afresh": all cells are new. Signals above s are not reached.
+  abbrev pub searchEnd : (wanted s : ℕ) → SearchEnd
+  searchEnd w s = endFrom (suc s) (src s) w s (fresh (suc s))
+
   unfoldable pub search : (wanted s : ℕ) → Answer
-  search w s = begin (suc s) (src s) w s (fresh (suc s))
+  search w s = answerOf w (searchEnd w s)

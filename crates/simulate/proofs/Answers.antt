@@ -5,29 +5,31 @@ use mathlib.Core.Path.{_≡_, refl, sym, _∙_, ap}
 use mathlib.Core.List.{List, _++_}
 use borrow.Author.Tests.{le-leb, lt-leb, lt-ltb, le-ltb}
 use lib.ListN.{length, drop}
+use Rattle.words.specs.Refusal.{refuse}
 use Rattle.netlist.proofs.Accepted.{formed}
 use Rattle.changes.specs.declared.Listed.the-variants as list
 use Rattle.changes.specs.Refusals.{listChecked}
 use Rattle.changes.proofs.Accepted.{listed}
 use Rattle.simulate.specs.declared.Simulated.the-variants.{Done, Refused}
-use Rattle.simulate.specs.Full.{Ready, codes, judged, left, fullAnswer, fullBuffer}
+use Rattle.simulate.specs.Full.{codes, fullFrom, left, fullAnswer, fullBuffer}
+use Rattle.simulate.specs.Pass.{Classifiable}
 use Rattle.simulate.proofs.Laws.{spreads}
 use Rattle.simulate.proofs.Theorems.{codes-length}
 
 module _ (n l : List ℕ) (change : ℕ) (buffer : List ℕ) where
   pub refused-list : (number place : ℕ) → listChecked n l ≡ list.Refused number place
       → (Refused number place ≡ fullAnswer n l change buffer) × (buffer ≡ fullBuffer n l change buffer)
-  unfolding fullAnswer fullBuffer judged
+  unfolding fullAnswer fullBuffer fullFrom refuse
   refused-list number place e = (rw e, rw e)
 
   module _ {i g o p s t w : ℕ} (e : listChecked n l ≡ list.Accepted i g o p s t w) where
     pub refused-change : t ≤ change → (Refused 18 0 ≡ fullAnswer n l change buffer) × (buffer ≡ fullBuffer n l change buffer)
-    unfolding fullAnswer fullBuffer judged
+    unfolding fullAnswer fullBuffer fullFrom refuse
     refused-change late = (rw (e, le-leb t change late), rw (e, le-leb t change late))
 
     module _ (early : change < t) where
       pub refused-room : length buffer < i + g → (Refused 20 0 ≡ fullAnswer n l change buffer) × (buffer ≡ fullBuffer n l change buffer)
-      unfolding fullAnswer fullBuffer judged
+      unfolding fullAnswer fullBuffer fullFrom refuse
       refused-room small =
           (rw (e, lt-leb t change early, lt-ltb (length buffer) (i + g) small), rw (e, lt-leb t change early, lt-ltb (length buffer) (i + g) small))
 
@@ -36,7 +38,7 @@ module _ (n l : List ℕ) (change : ℕ) (buffer : List ℕ) where
 
       pub done : i + g ≤ length buffer → (exit : List ℕ) → exit ≡ codes n l change ++ drop (i + g) buffer
           → (Done ≡ fullAnswer n l change buffer) × (exit ≡ fullBuffer n l change buffer)
-      unfolding fullAnswer fullBuffer judged
+      unfolding fullAnswer fullBuffer fullFrom refuse
       done room exit x = (
         rw (e, lt-leb t change early, le-ltb (length buffer) (i + g) room),
         rw (e, lt-leb t change early, le-ltb (length buffer) (i + g) room, signals) x,
@@ -44,7 +46,7 @@ module _ (n l : List ℕ) (change : ℕ) (buffer : List ℕ) where
 
 -- an accepted list's change is ready
 pub ready : {i g o p s t w : ℕ} (n l : List ℕ) → listChecked n l ≡ list.Accepted i g o p s t w → (change room : ℕ) → change < t → i + g ≤ room
-    → Ready n l i g w change room
+    → Classifiable n l i g w change room
 ready n l e change room early enough =
     let f = listed n l e in
     record {

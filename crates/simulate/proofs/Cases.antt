@@ -6,6 +6,7 @@ use Rattle.kung.specs.Class.{Class, c0, c1, R, F, S0, S1, D+, D-, code}
 use Rattle.kung.specs.Rule.{each, some, andAll, orAll, Kind, AND, OR, NAND, NOR, kindOf, gateClass}
 use Rattle.circuit.specs.Circuit.{sources, values}
 use Rattle.words.specs.Words.{wordAt, longAt, wordsAt, marked, outside, tieFrom, tieOf}
+use Rattle.words.specs.Refusal.{refuse}
 use Rattle.netlist.specs.Netlist as netlist
 use Rattle.changes.specs.declared.Listed.the-variants.{Accepted}
 use Rattle.changes.specs.Changes.{bitAt, inputClassAt, sourcesOf}
@@ -45,5 +46,5 @@ unfolding tieOf tieFrom
 mux-tie = refl
 
 mux-accepted : list.listChecked muxNetlist muxList ≡ Accepted 3 4 1 7 33 1 1
-unfolding list.listChecked list.against list.afterNetlist list.sparesFrom list.spareAt list.spareBits list.refuse netlist.checked netlist.checkedWithin netlist.bodyWithin netlist.body netlist.accepted netlist.outputs netlist.counts netlist.opening netlist.recordsFrom netlist.recordAt netlist.mostPins netlist.leastPins netlist.noKind netlist.wordsBelow netlist.refuse netlist.pinsBelow netlist.placeOf wordAt longAt marked outside tieOf tieFrom
+unfolding list.listChecked list.against list.afterNetlist list.sparesFrom list.spareAt list.spareBits netlist.checked netlist.checkedWithin netlist.bodyWithin netlist.body netlist.accepted netlist.outputs netlist.counts netlist.opening netlist.recordsFrom netlist.recordAt netlist.mostPins netlist.leastPins netlist.noKind netlist.wordsBelow refuse netlist.pinsBelow netlist.placeOf wordAt longAt marked outside tieOf tieFrom
 mux-accepted = refl

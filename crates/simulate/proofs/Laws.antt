@@ -9,7 +9,7 @@ use lib.ListN.{length, getD, drop, set, length-append, length-drop, length-map, 
 use lib.Seq.{drop-cons, drop-append-add, drop-drop, set-at, take-suc}
 use Rattle.kung.specs.Class.{Class, c0, code, ofCode}
 use Rattle.kung.specs.Rule.{gateClass}
-use Rattle.kung.specs.Sets.{insert, collect}
+use Rattle.kung.specs.Members.{insert, collect}
 use Rattle.kung.specs.Tables.{tab}
 use Rattle.kung.proofs.Finite.{ofCode-code, everyClass, class-at}
 use Rattle.kung.proofs.Listed.{agree, getD-tab}
@@ -18,7 +18,8 @@ use Rattle.circuit.proofs.Laws.{map-ext, each-map, values-length, sources-gate,
 use Rattle.words.specs.Words.{wordAt, wordsAt}
 use Rattle.netlist.specs.Formed.{Formed}
 use Rattle.netlist.specs.Netlist.{inputsOf, gatesOf, placeOf, gateKind, gatePins, cardOf}
-use Rattle.changes.specs.Changes.{widthOf, inputClassAt, inputCodes, sourcesOf}
+use Rattle.changes.specs.Changes.{widthOf, inputClassAt, sourcesOf}
+use Rattle.changes.specs.Written.{inputCodes}
 use Rattle.changes.proofs.Laws.{tab-length}
 use Rattle.simulate.specs.Pass.{gateCode, Readable, sourcesIn, codesOf, Spreads, Passable}
 use Rattle.simulate.specs.Full.{codes}

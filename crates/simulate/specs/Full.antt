@@ -1,7 +1,5 @@
 -- Document 01, "The eight classes" and "Turned back, by operation": full simulation of a change.
-use Prim.Native.Nat.{ℕ, _+_, _≤_, _<_}
-use mathlib.Core.Path.{_≡_}
-use mathlib.Core.Bool.{Bool, cond}
+use Prim.Native.Nat.{ℕ, _+_}
 use mathlib.Core.List.{List, _++_, map}
 use lib.Dec.{leb, ltb}
 use lib.ListN.{length, drop}
@@ -9,12 +7,12 @@ use Rattle.kung.specs.Class.{Class, c0, code}
 use Rattle.kung.specs.Rule.{gateClass}
 use Rattle.circuit.specs.Circuit.{values}
 use Rattle.circuit.specs.Settled.{classOf}
+use Rattle.words.specs.Refusal.{refuse}
 use Rattle.netlist.specs.Netlist.{inputsOf, gatesOf, cardOf}
 use Rattle.changes.specs.declared.Listed.{Listed}
 use Rattle.changes.specs.declared.Listed.the-variants as list
 use Rattle.changes.specs.Changes.{widthOf, first, second, bitOf, sourcesOf}
 use Rattle.changes.specs.Refusals.{listChecked}
-use Rattle.simulate.specs.Pass.{Spreads}
 use Rattle.simulate.specs.declared.Simulated.{Simulated}
 use Rattle.simulate.specs.declared.Simulated.the-variants.{Done, Refused}
 
@@ -26,28 +24,16 @@ classIn n l t = classOf (cardOf n) (bitOf l (widthOf (inputsOf n)) t first) (bit
 unfoldable pub codes : (netlist list : List ℕ) → (t : ℕ) → List ℕ
 codes n l t = map code (values gateClass c0 (sourcesOf n l t) (inputsOf n + gatesOf n))
 
--- what a change of an accepted list gives its simulation, with room for the codes
-pub record Ready (netlist list : List ℕ) (inputs gates width change room : ℕ) : Type 0 where
-  pub card : Spreads netlist inputs gates
-  pub enough : inputs + gates ≤ room
-  pub width-is : width ≡ widthOf inputs
-  pub width-high : width ≤ 32
-  pub change-high : change ≤ 1000
-
--- "In the order below, the first condition met is the refusal"; "Places from 18 up are 0 unless given otherwise."
-abbrev pub refuse : Bool → (number : ℕ) → Simulated → Simulated
-refuse test number next = cond test (Refused number 0) next
-
--- "Full: the list's, then change not below T 18; buffer under I + G 20."
-unfoldable pub judged : Listed → (change room : ℕ) → Simulated
-judged (list.Refused number place) change room = Refused number place
-judged (list.Accepted inputs gates outputs pins entries changes width) change room =
-    refuse (leb changes change) 18
-    (refuse (ltb room (inputs + gates)) 20
+-- "Full: the list's, then change not below T 18; buffer under I + G 20."; "Places from 18 up are 0 unless given otherwise."
+unfoldable pub fullFrom : Listed → (change room : ℕ) → Simulated
+fullFrom (list.Refused number place) change room = Refused number place
+fullFrom (list.Accepted inputs gates outputs pins entries changes width) change room =
+    refuse Refused (leb changes change) 18 0
+    (refuse Refused (ltb room (inputs + gates)) 20 0
     Done)
 
 unfoldable pub fullAnswer : (netlist list : List ℕ) → (change : ℕ) → (buffer : List ℕ) → Simulated
-fullAnswer n l change buffer = judged (listChecked n l) change (length buffer)
+fullAnswer n l change buffer = fullFrom (listChecked n l) change (length buffer)
 
 -- "of a lent buffer; later bytes stay"; a refused call leaves it as it was
 abbrev pub left : Simulated → (written buffer : List ℕ) → List ℕ

@@ -1,4 +1,4 @@
--- The gate pass: given input classes spread over an accepted netlist, gate 0 first.
+-- What the gate pass is lent and does: given input classes spread over an accepted netlist, gate 0 first.
 use Prim.Native.Nat.{ℕ, _+_, _≤_, _<_}
 use mathlib.Core.Path.{_≡_}
 use mathlib.Core.List.{List, _++_, map}
@@ -8,6 +8,7 @@ use Rattle.kung.specs.Rule.{kindOf, gateClass}
 use Rattle.circuit.specs.Circuit.{Each, Source, sources, values}
 use Rattle.words.specs.Words.{wordsAt}
 use Rattle.netlist.specs.Netlist.{inputsOf, gatesOf, kindAt, countAt, placeOf, pastRecord, cardOf}
+use Rattle.changes.specs.Changes.{widthOf}
 
 -- the sources of a netlist's signals where the first bytes of a buffer have the inputs' classes
 unfoldable pub sourcesIn : (netlist buffer : List ℕ) → ℕ → Source Class
@@ -41,3 +42,11 @@ pub record Passable (netlist buffer : List ℕ) (inputs gates : ℕ) : Type 0 wh
   pub card : Spreads netlist inputs gates
   pub room : inputs + gates ≤ length buffer
   pub coded : (i : ℕ) → i < inputs → getD buffer i 0 < 8
+
+-- what a change of an accepted list gives its simulation, with room for the codes
+pub record Classifiable (netlist list : List ℕ) (inputs gates width change room : ℕ) : Type 0 where
+  pub card : Spreads netlist inputs gates
+  pub enough : inputs + gates ≤ room
+  pub width-is : width ≡ widthOf inputs
+  pub width-high : width ≤ 32
+  pub change-high : change ≤ 1000

@@ -4,12 +4,12 @@ ghost use mathlib.Core.List.{_++_, map};
 ghost use Prim.Native.Nat.{_+_, _*_, _≤_, _<_};
 ghost use lib.ListN.{length, getD, drop};
 ghost use Rattle.kung.specs.Class.{code, ofCode};
-ghost use Rattle.kung.specs.Sets.{collect};
+ghost use Rattle.kung.specs.Members.{collect};
 ghost use Rattle.kung.specs.Tables.{gateTable};
 ghost use Rattle.circuit.specs.Circuit.{Each};
 ghost use Rattle.words.specs.Words.{wordsAt};
-ghost use Rattle.simulate.specs.Pass.{gateCode, Readable, codesOf, Passable};
-ghost use Rattle.simulate.specs.Full.{Ready, codes, fullAnswer, fullBuffer};
+ghost use Rattle.simulate.specs.Pass.{gateCode, Readable, codesOf, Passable, Classifiable};
+ghost use Rattle.simulate.specs.Full.{codes, fullAnswer, fullBuffer};
 use changes::Listed;
 
 // The set of the classes of the pins whose `count` signal numbers stand from `at` on. From the last pin to the first, as the set is defined.
@@ -65,7 +65,7 @@ pub fn classify(
     change: usize,
     buffer: &mut [u8],
 )
-    requires { ⌜ (now table ≡ gateTable) × Ready (now netlist) (now list) inputs gates width change (length (now buffer)) ⌝ }
+    requires { ⌜ (now table ≡ gateTable) × Classifiable (now netlist) (now list) inputs gates width change (length (now buffer)) ⌝ }
     ensures { λ r. ⌜ now (buffer .exit) ≡ codes (now (netlist .entry)) (now (list .entry)) change ++ drop (inputs + gates) (now (buffer .entry)) ⌝ }
 {
     changes::fill_inputs(list, width, change, inputs, buffer);

@@ -17,8 +17,7 @@ use Rattle.netlist.specs.Netlist.{kindAt, countAt}
 use Rattle.search.specs.Search.{nextOf, cellOf, possibleOf, only, Waiting, sameResult, knownOr, checks, toldOr, driverOf}
 use Rattle.search.proofs.Steps.{left-is}
 use Rattle.visit.specs.declared.Driver.the-variants.{Told, Behind}
-use Rattle.visit.specs.Source.{gateAt}
-use Rattle.visit.specs.Found.{codeOr, checkOf, driverCode}
+use Rattle.visit.specs.Codes.{gateAt, codeOr, checkOf, driverCode}
 use Rattle.visit.proofs.Codes.{code-small, meets-and}
 
 -- the checks of a possible set m, in order

@@ -10,41 +10,43 @@ use borrow.Author.Tests.{lt-ltb}
 use Rattle.kung.specs.Class.{Class, c0, code, classes, ofCode}
 use Rattle.kung.specs.Rule.{kindOf, some as someOf}
 use Rattle.kung.specs.Operation.{Op, and, or, opOf, inverts, opCode, opAt, unit}
-use Rattle.kung.specs.Sets.{bit, has, meets, keep, possible, only as onlyCode}
+use Rattle.kung.specs.Sets.{bit, has, meets}
+use Rattle.kung.specs.Members.{keep, onlyCode}
 use Rattle.kung.specs.Tables.{tab}
 use Rattle.kung.proofs.Finite.{ofCode-code}
 use Rattle.kung.proofs.Listed.{agree}
+use Rattle.netlist.specs.declared.Meaning.{Meaning}
+use Rattle.netlist.specs.Meaning.{meaningOf}
+use Rattle.netlist.proofs.Meanings.{meaning-operation, meaning-inverts}
 use Rattle.search.specs.Search.{onlyOf, only, waits}
-use Rattle.visit.specs.Found.{waitingOf, codeOr}
+use Rattle.visit.specs.Codes.{waitingOf, codeOr}
 
--- a kind's operation, and whether it inverts
-pub kind-operation : (kind : ℕ) → kind < 256 → opCode (opOf (kindOf kind)) ≡ cond (eqb kind 4) 1 (cond (eqb kind 6) 1 0)
-unfolding kindOf tab
-kind-operation = agree (λ kind. opCode (opOf (kindOf kind))) (λ kind. cond (eqb kind 4) 1 (cond (eqb kind 6) 1 0)) 256 refl
-
-bit-same : (a b : Bool) → bit a ≡ bit b → a ≡ b
-bit-same true true e = refl
-bit-same true false e = absurd (omega arith)
-bit-same false true e = absurd (omega arith)
-bit-same false false e = refl
-
-pub kind-inverts : (kind : ℕ) → kind < 256 → inverts (kindOf kind) ≡ cond (eqb kind 1) true (cond (eqb kind 5) true (eqb kind 6))
-unfolding kindOf tab
-kind-inverts kind h =
-    bit-same _ _
-    (agree (λ kind. bit (inverts (kindOf kind))) (λ kind. bit (cond (eqb kind 1) true (cond (eqb kind 5) true (eqb kind 6)))) 256 refl kind h)
-
-pub op-code : (o : Op) → opAt (opCode o) ≡ o
+op-code : (o : Op) → opAt (opCode o) ≡ o
 op-code and = refl
 op-code or = refl
 
-pub op-small : (o : Op) → opCode o < 2
-op-small and = omega arith
-op-small or = omega arith
+op-digit : (n : ℕ) → n % 2 ≡ opCode (opAt n)
+op-digit n = go (n % 2) (omega arith)
+  where
+    go : (m : ℕ) → m < 2 → m ≡ opCode (cond (eqb m 0) and or)
+    go zero h = refl
+    go (suc zero) h = refl
+    go (suc (suc m)) h = absurd (omega arith)
 
-pub unit-code : (o : Op) → 1 - opCode o ≡ code (unit o)
-unit-code and = refl
-unit-code or = refl
+-- what a kind byte means: its operation, as a number, and whether it inverts
+module _ (kind : ℕ) {meaning : Meaning} (is : meaning ≡ meaningOf kind) where
+  pub operation-is : opAt (meaning .operation) ≡ opOf (kindOf kind)
+  operation-is = ap (λ (m : Meaning). opAt (m .operation)) is ∙ ap opAt (meaning-operation kind) ∙ op-code (opOf (kindOf kind))
+
+  pub inverts-is : meaning .inverts ≡ inverts (kindOf kind)
+  inverts-is = ap (λ (m : Meaning). m .inverts) is ∙ meaning-inverts kind
+
+pub unit-code : (n : ℕ) → 1 - n % 2 ≡ code (unit (opAt n))
+unit-code n = ap (λ m. 1 - m) (op-digit n) ∙ go (opAt n)
+  where
+    go : (o : Op) → 1 - opCode o ≡ code (unit o)
+    go and = refl
+    go or = refl
 
 pub code-ofCode : (n : ℕ) → code (ofCode n) ≡ n % 8
 unfolding ofCode tab
@@ -54,18 +56,24 @@ pub code-small : (k : Class) → code k < 8
 code-small k = omega (arith, code-ofCode (code k), ap code (ofCode-code k))
 
 -- the number of a gate that waits
-pub waiter-code : (o : Op) (p : ℕ) → waitingOf (8 * opCode o + p % 8) ≡ waits o (ofCode p)
+pub waiter-code : (n p : ℕ) → waitingOf (8 * (n % 2) + p % 8) ≡ waits (opAt n) (ofCode p)
 unfolding waitingOf ofCode
-waiter-code o p =
-    rw (lt-ltb (8 * opCode o + p % 8) 16 (omega (arith, op-small o)))
-    (let h : (8 * opCode o + p % 8) / 8 ≡ opCode o = omega arith in
-    let l : (8 * opCode o + p % 8) % 8 ≡ p % 8 = omega arith in
-    rw (h, l, op-code o))
+waiter-code n p =
+    rw (lt-ltb (8 * (n % 2) + p % 8) 16 (omega arith))
+    (let h : (8 * (n % 2) + p % 8) / 8 % 2 ≡ n % 2 = omega arith in
+    let l : (8 * (n % 2) + p % 8) % 8 ≡ p % 8 = omega arith in
+    rw (h, l))
 
 -- a set's only class
 pub only-code : (m : ℕ) → m < 256 → onlyCode m ≡ codeOr (only m)
 unfolding onlyCode keep has only onlyOf tab
 only-code = agree onlyCode (λ m. codeOr (only m)) 256 refl
+
+bit-same : (a b : Bool) → bit a ≡ bit b → a ≡ b
+bit-same true true e = refl
+bit-same true false e = absurd (omega arith)
+bit-same false true e = absurd (omega arith)
+bit-same false false e = refl
 
 -- sets that share a class, by their bits
 and-bit : (x y : ℕ) → x < 2 → y < 2 → eqb (bitAnd x y) 1 ≡ eqb x 1 && eqb y 1
@@ -91,8 +99,3 @@ pub meets-and : (m w : ℕ) → m < 256 → meets m w ≡ not (eqb (bitAnd m w) 
 unfolding meets
 meets-and m w h =
     (λ i. someOf (λ k. sym (has-and m w k) i) classes) ∙ some-class (bitAnd m w) (omega (arith, and-le-l m w))
-
--- a possible set, where the kind is given by its operation and whether it inverts
-pub possible-kind : (kind operation : ℕ) (inverting : Bool) (p : Class) (left : Bool) → operation ≡ opCode (opOf (kindOf kind)) → inverting ≡ inverts (kindOf kind)
-    → possible (opAt operation) inverting p left ≡ possible (opOf (kindOf kind)) (inverts (kindOf kind)) p left
-possible-kind kind operation inverting p left e f = rw (e, f, op-code (opOf (kindOf kind)))

@@ -10,7 +10,8 @@ use Rattle.kung.specs.Class.{ofCode}
 use Rattle.circuit.specs.Circuit.{given, gate, Each, WellFormed}
 use Rattle.words.proofs.Laws.{words-length, words-at}
 use Rattle.netlist.specs.Netlist.{inputsOf, gatesOf, pinAt, cardOf}
-use Rattle.visit.specs.Source.{placeFrom, kindFrom, countFrom, pinsFrom, sourceFrom, Indexed}
+use Rattle.visit.specs.Source.{placeFrom, kindFrom, countFrom, pinsFrom, sourceFrom}
+use Rattle.visit.specs.Lent.{Indexed, SearchReady}
 
 pub source-given : (netlist known : List ℕ) (s : ℕ) → getD known s 0 < 8 → sourceFrom netlist known s ≡ given (ofCode (getD known s 0))
 unfolding sourceFrom
@@ -33,6 +34,11 @@ gate-of netlist places known inputs s i h =
     let same = i .inputs-are in
     let at = i .placed (s - inputs) (omega arith) in
     record { above = omega arith; gate = omega arith; there = at .0; place = at .1 ∙ rw same }
+
+pub pins-few : {images wanteds netlist places known : List ℕ} {inputs : ℕ} → SearchReady images wanteds netlist places known inputs
+    → (s : ℕ) → 8 ≤ getD known s 0 → countFrom netlist s ≤ 8
+pins-few {netlist = netlist} {places = places} {known = known} {inputs = inputs} r s h =
+    r .few-pins _ (gate-of netlist places known inputs s (r .indexed) h .gate)
 
 -- the signals to be searched are those of `known`
 pub searched-there : (known : List ℕ) (s : ℕ) → 8 ≤ getD known s 0 → s < length known

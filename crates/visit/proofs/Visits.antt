@@ -21,7 +21,8 @@ use Rattle.search.proofs.Laws.{only-last}
 use Rattle.search.proofs.Steps.{left-is, visit-gate, pins-end, pins-step}
 use Rattle.visit.specs.declared.Driver.the-variants.{Told, Behind}
 use Rattle.visit.specs.Source.{placeFrom, kindFrom, countFrom, pinsFrom, sourceFrom}
-use Rattle.visit.specs.Found.{waitingOf, endingOf, checkOf, carriedFrom, driverCode, endedOf, takeNext, Visits, Takes}
+use Rattle.visit.specs.Codes.{waitingOf, endingOf, checkOf, carriedFrom, driverCode}
+use Rattle.visit.specs.Visits.{endedOf, takeNext, Visits, Takes}
 use Rattle.visit.proofs.Codes.{code-small}
 use Rattle.visit.proofs.Sources.{source-gate}
 
@@ -156,9 +157,10 @@ module _ (netlist known : List ℕ) (s w waiter from first : ℕ) (cells₀ : Li
         record { is = λ n h. rw (add-one next) (sym (carries r (kindFrom netlist s) p q small e after _) ∙ sym (taken n h) ∙ rest .is n h) }
 
     pub rest-stopped : r ≡ 16 → (entry : List ℕ) → 8 ≤ getD known s 0 → cells₀ ≡ put entry s (kept (ofCode from) first)
-        → Visits netlist known s from first w waiter entry after 16
+        → Visits netlist known s from first w waiter entry after r
     unfolding outcomeFrom
-    rest-stopped stop entry searched begun = ends entry searched begun after 16 (λ n h. ap endedOf (sym (rw stop at (taken n h))))
+    rest-stopped stop entry searched begun =
+        ends entry searched begun after r (λ n h. ap (λ r. (r, after)) stop ∙ ap endedOf (sym (rw stop at (taken n h))))
 
 pub takes-small : (netlist known : List ℕ) (s p next w : ℕ) (entry exit : List ℕ) (r : ℕ) → Takes netlist known s p next w entry exit r → r < 17
 takes-small netlist codes s p next w entry exit r takes =

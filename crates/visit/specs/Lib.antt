@@ -1,2 +1,5 @@
 pub mod Source
 pub mod Found
+pub mod Lent
+pub mod Codes
+pub mod Visits

@@ -4,14 +4,16 @@ ghost use Prim.Native.Nat.{_+_, _-_, _*_, _≤_, _<_};
 ghost use lib.Dec.{ltb};
 ghost use lib.ListN.{length, getD};
 ghost use Rattle.kung.specs.Class.{code, ofCode};
-ghost use Rattle.kung.specs.Rule.{kindOf};
-ghost use Rattle.kung.specs.Operation.{opCode, opOf, inverts, unit};
+ghost use Rattle.kung.specs.Operation.{opAt, unit};
 ghost use Rattle.kung.specs.Sets.{has, possible, wantedFor};
 ghost use Rattle.kung.specs.Tables.{imageTable, wantedTable};
-ghost use Rattle.netlist.specs.Netlist.{kindAt, countAt, pinAt};
+ghost use Rattle.netlist.specs.Netlist.{countAt, pinAt};
 ghost use Rattle.search.specs.Search.{kept, cellOf, cellAt, put, fresh, sameResult, waits, driverOf, checks, judged, visitedOf, nextOf, total, search};
-ghost use Rattle.visit.specs.Source.{gateAt, sourceFrom, countFrom, Indexed, Ready};
-ghost use Rattle.visit.specs.Found.{waitingOf, codeOr, checkOf, carriedFrom, driverCode, verdictCode, verdictFrom, foundOf, Visits, Takes};
+ghost use Rattle.visit.specs.Source.{sourceFrom, countFrom};
+ghost use Rattle.visit.specs.Found.{verdictCode, foundOf, cellsLeft};
+ghost use Rattle.visit.specs.Lent.{Indexed, SearchReady};
+ghost use Rattle.visit.specs.Codes.{gateAt, waitingOf, codeOr, checkOf, carriedFrom, driverCode, verdictFrom};
+ghost use Rattle.visit.specs.Visits.{Visits, Means, Takes};
 use kung::image_of;
 use kung::joined;
 use kung::only_class;
@@ -19,6 +21,7 @@ use kung::possible_set;
 use kung::wanted_set;
 use netlist::count_at;
 use netlist::kind_at;
+use netlist::meaning_of;
 use words::word_in;
 
 // How a visit ends, as a number: the class of a gate that is known, UNFINISHED and the result that the waiting gate takes, or STOPPED.
@@ -50,37 +53,18 @@ pub struct Found {
     pub pins: usize,
 }
 
-// The operation of a kind of gate, 0 AND or 1 OR, and whether it inverts.
-fn operation_of(kind: u8) -> u8
-    ensures { λ r. ⌜ r ≡ opCode (opOf (kindOf kind)) ⌝ }
+// The class that p starts from, by the gate's operation.
+fn unit_of(operation: u8) -> u8
+    ensures { λ r. ⌜ r ≡ code (unit (opAt operation)) ⌝ }
 {
-    if kind == 4 {
-        return 1;
-    }
-    if kind == 6 { 1 } else { 0 }
-}
-
-fn is_inverting(kind: u8) -> bool
-    ensures { λ r. ⌜ r ≡ inverts (kindOf kind) ⌝ }
-{
-    if kind == 1 {
-        return true;
-    }
-    if kind == 5 { true } else { kind == 6 }
-}
-
-// The class that p starts from.
-fn unit_of(kind: u8) -> u8
-    ensures { λ r. ⌜ r ≡ code (unit (opOf (kindOf kind))) ⌝ }
-{
-    1 - operation_of(kind)
+    1 - operation % 2
 }
 
 // A gate that waits with p, as a number below NOBODY.
-fn waiter_of(kind: u8, p: u8) -> u8
-    ensures { λ r. ⌜ waitingOf r ≡ waits (opOf (kindOf kind)) (ofCode p) ⌝ }
+fn waiter_of(operation: u8, p: u8) -> u8
+    ensures { λ r. ⌜ waitingOf r ≡ waits (opAt operation) (ofCode p) ⌝ }
 {
-    8 * operation_of(kind) + p % 8
+    8 * (operation % 2) + p % 8
 }
 
 // A visited gate's cell is written.
@@ -104,11 +88,19 @@ fn same_result_of(images: &[u8; 4096], waiter: u8, set: u8) -> u8
 }
 
 // A gate's checks, in order.
-fn check_gate(images: &[u8; 4096], kind: u8, p: u8, left: bool, wanted: u8, waiter: u8) -> u8
+fn check_gate(
+    images: &[u8; 4096],
+    operation: u8,
+    inverted: bool,
+    p: u8,
+    left: bool,
+    wanted: u8,
+    waiter: u8,
+) -> u8
     requires { ⌜ now images ≡ imageTable ⌝ }
-    ensures { λ r. ⌜ r ≡ checkOf (checks (possible (opOf (kindOf kind)) (inverts (kindOf kind)) (ofCode p) left) wanted (waitingOf waiter)) ⌝ }
+    ensures { λ r. ⌜ r ≡ checkOf (checks (possible (opAt operation) inverted (ofCode p) left) wanted (waitingOf waiter)) ⌝ }
 {
-    let set = possible_set(images, operation_of(kind), is_inverting(kind), p, left);
+    let set = possible_set(images, operation, inverted, p, left);
     let class = only_class(set);
     if set & wanted == 0 {
         return STOPPED;
@@ -124,12 +116,12 @@ fn check_gate(images: &[u8; 4096], kind: u8, p: u8, left: bool, wanted: u8, wait
 }
 
 // The waiting gate's p after a visit behind it that did not stop the search.
-fn carry(images: &[u8; 4096], kind: u8, p: u8, ending: u8) -> u8
+fn carry(images: &[u8; 4096], operation: u8, p: u8, ending: u8) -> u8
     requires { ⌜ (now images ≡ imageTable) × (ending < 16) ⌝ }
-    ensures { λ r. ⌜ r ≡ code (carriedFrom ending (opOf (kindOf kind)) (ofCode p)) ⌝ }
+    ensures { λ r. ⌜ r ≡ code (carriedFrom ending (opAt operation) (ofCode p)) ⌝ }
 {
     if ending < UNFINISHED {
-        joined(images, operation_of(kind), p, ending)
+        joined(images, operation, p, ending)
     } else {
         ending - UNFINISHED
     }
@@ -152,21 +144,22 @@ fn pin_in(netlist: &[u8], place: u16, next: u8) -> usize
     word_in(netlist, place as usize + 2 + 2 * (next as usize)) as usize
 }
 
-// The wanted set of the gate behind pin `next`.
-fn wanted_behind(wanteds: &[u8; 576], netlist: &[u8], place: u16, p: u8, next: u8, wanted: u8) -> u8
+// The wanted set of the gate behind pin `next` of the record at a place.
+fn wanted_behind(
+    wanteds: &[u8; 576],
+    netlist: &[u8],
+    place: u16,
+    operation: u8,
+    inverted: bool,
+    p: u8,
+    next: u8,
+    wanted: u8,
+) -> u8
     requires { ⌜ (now wanteds ≡ wantedTable) × (next < 255) ⌝ }
-    ensures { λ r. ⌜ r ≡ wantedFor (opOf (kindOf (kindAt (now (netlist .entry)) place))) (inverts (kindOf (kindAt (now (netlist .entry)) place))) (ofCode p) (ltb (next + 1) (countAt (now (netlist .entry)) place)) wanted ⌝ }
+    ensures { λ r. ⌜ r ≡ wantedFor (opAt operation) inverted (ofCode p) (ltb (next + 1) (countAt (now (netlist .entry)) place)) wanted ⌝ }
 {
-    let kind = kind_at(netlist, place);
     let more = next + 1 < count_at(netlist, place);
-    wanted_set(
-        wanteds,
-        operation_of(kind),
-        is_inverting(kind),
-        p,
-        more,
-        wanted,
-    )
+    wanted_set(wanteds, operation, inverted, p, more, wanted)
 }
 
 // What stands behind a pin on a gate to be searched: its class where its possible set has one.
@@ -174,22 +167,16 @@ fn gate_driver(images: &[u8; 4096], netlist: &[u8], place: u16, cell: u8) -> Dri
     requires { ⌜ now images ≡ imageTable ⌝ }
     ensures { λ r. ⌜ r ≡ driverCode (driverOf (gateAt (now (netlist .entry)) place) (cellOf cell)) ⌝ }
 {
-    let kind = kind_at(netlist, place);
+    let meaning = meaning_of(kind_at(netlist, place));
     if cell < 128 {
         return Driver::Behind {
-            p: unit_of(kind),
+            p: unit_of(meaning.operation),
             next: 0,
         };
     }
     let next = cell / 8 - 16;
     let left = next < count_at(netlist, place);
-    let class = only_class(possible_set(
-        images,
-        operation_of(kind),
-        is_inverting(kind),
-        cell,
-        left,
-    ));
+    let class = only_class(possible_set(images, meaning.operation, meaning.inverts, cell, left));
     if class < 8 {
         Driver::Told { class: class }
     } else {
@@ -237,18 +224,20 @@ fn visit(
     wanted: u8,
     waiter: u8,
 ) -> u8
-    requires { ⌜ Ready (now images) (now wanteds) (now netlist) (now places) (now known) inputs ⌝ }
+    requires { ⌜ SearchReady (now images) (now wanteds) (now netlist) (now places) (now known) inputs ⌝ }
     requires { ⌜ (8 ≤ getD (now known) s 0) × (s < length (now cells)) × (first < 16) ⌝ }
     ensures { λ r. ⌜ Visits (now (netlist .entry)) (now (known .entry)) s from first wanted waiter (now (cells .entry)) (now (cells .exit)) r ⌝ }
 {
     let place = place_of(places, inputs, s);
-    let kind = kind_at(netlist, place);
+    let meaning = meaning_of(kind_at(netlist, place));
+    let operation = meaning.operation;
+    let inverted = meaning.inverts;
     let count = count_at(netlist, place);
     keep(cells, s, from, first);
     let mut p = from;
     let mut next = first;
     loop {
-        let check = check_gate(images, kind, p, next < count, wanted, waiter);
+        let check = check_gate(images, operation, inverted, p, next < count, wanted, waiter);
         if check < GOES_ON {
             return check;
         }
@@ -261,14 +250,16 @@ fn visit(
             cells,
             inputs,
             s,
+            operation,
+            inverted,
             p,
             next,
             wanted,
         );
         if ending == STOPPED {
-            return STOPPED;
+            return ending;
         }
-        p = carry(images, kind, p, ending);
+        p = carry(images, operation, p, ending);
         next += 1;
         keep(cells, s, p, next);
     }
@@ -284,12 +275,14 @@ fn take(
     cells: &mut [u8],
     inputs: usize,
     s: usize,
+    operation: u8,
+    inverted: bool,
     p: u8,
     next: u8,
     wanted: u8,
 ) -> u8
-    requires { ⌜ Ready (now images) (now wanteds) (now netlist) (now places) (now known) inputs ⌝ }
-    requires { ⌜ (8 ≤ getD (now known) s 0) × (s < length (now cells)) × (next < countFrom (now netlist) s) ⌝ }
+    requires { ⌜ SearchReady (now images) (now wanteds) (now netlist) (now places) (now known) inputs ⌝ }
+    requires { ⌜ (8 ≤ getD (now known) s 0) × (s < length (now cells)) × (next < countFrom (now netlist) s) × Means (now netlist) s operation inverted ⌝ }
     ensures { λ r. ⌜ Takes (now (netlist .entry)) (now (known .entry)) s p next wanted (now (cells .entry)) (now (cells .exit)) r ⌝ }
 {
     let place = place_of(places, inputs, s);
@@ -312,8 +305,17 @@ fn take(
             x,
             from,
             first,
-            wanted_behind(wanteds, netlist, place, p, next, wanted),
-            waiter_of(kind_at(netlist, place), p),
+            wanted_behind(
+                wanteds,
+                netlist,
+                place,
+                operation,
+                inverted,
+                p,
+                next,
+                wanted,
+            ),
+            waiter_of(operation, p),
         ),
     }
 }
@@ -404,7 +406,7 @@ fn verdict_of(ending: u8) -> Verdict
     }
 }
 
-// The search of signal s. Each call starts afresh: the cells are lent room, whatever they hold.
+// The search of signal s. Each call starts afresh, whatever the lent cells hold, and leaves in them what the visit kept.
 pub fn find(
     images: &[u8; 4096],
     wanteds: &[u8; 576],
@@ -416,9 +418,10 @@ pub fn find(
     wanted: u8,
     s: usize,
 ) -> Found
-    requires { ⌜ Ready (now images) (now wanteds) (now netlist) (now places) (now known) inputs ⌝ }
+    requires { ⌜ SearchReady (now images) (now wanteds) (now netlist) (now places) (now known) inputs ⌝ }
     requires { ⌜ (s < length (now known)) × (s < length (now cells)) ⌝ }
-    ensures { λ r. ⌜ r ≡ foundOf (search (sourceFrom (now (netlist .entry)) (now (known .entry))) wanted s) ⌝ }
+    ensures found { λ r. ⌜ r ≡ foundOf (search (sourceFrom (now (netlist .entry)) (now (known .entry))) wanted s) ⌝ }
+    ensures cells { λ r. ⌜ now (cells .exit) ≡ cellsLeft (sourceFrom (now (netlist .entry)) (now (known .entry))) wanted s (now (cells .entry)) ⌝ }
 {
     let class = known[s];
     if class < 8 {
@@ -428,7 +431,8 @@ pub fn find(
             pins: 0,
         };
     }
-    let from = unit_of(kind_at(netlist, place_of(places, inputs, s)));
+    let meaning = meaning_of(kind_at(netlist, place_of(places, inputs, s)));
+    let from = unit_of(meaning.operation);
     let reached = &mut cells[..s + 1];
     clear(reached);
     let ending = visit(

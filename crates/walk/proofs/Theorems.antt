@@ -20,7 +20,7 @@ use Rattle.walk.proofs.Laws.{whole-room, whole-formed, found-none, foun
 
 -- what a step does, by what it finds
 module _ (w : Walk) where
-  finds : (past : ℕ) → found w ≡ Whole past
+  pub finds : (past : ℕ) → found w ≡ Whole past
       → (handed w ≡ part (now (w .netlist)) (w .place) past) × (stepped w ≡ record { netlist = w .netlist; number = w .number + 1; place = past; count = w .count })
   unfolding handed stepped partOf movedOf
   finds past e = (rw e, rw e)

@@ -12,6 +12,8 @@ use Rattle.netlist.specs.Netlist.{gatesOf, kindAt, countAt, pastRecord, placeOf
 use Rattle.walk.specs.declared.Walk.{Walk}
 use Rattle.walk.specs.declared.Opened.{Opened}
 use Rattle.walk.specs.declared.Reached.{Reached}
+use Rattle.walk.specs.declared.Stepped.{Stepped}
+use Rattle.walk.specs.declared.Start.{Start}
 use Rattle.walk.specs.declared.Found.{Found}
 use Rattle.walk.specs.declared.Found.the-variants.{Whole, Nothing}
 
@@ -67,6 +69,18 @@ opened s = record {
   walk = record { netlist = s; number = 0; place = 11; count = gatesIn (checked (now s)) };
   checked = checked (now s);
 }
+
+-- a walk that stands at any number and place
+abbrev pub walkAt : RefT (List ℕ) → (number place count : ℕ) → Walk
+walkAt s number place count = record { netlist = s; number = number; place = place; count = count }
+
+-- a step in numbers: how many bytes it hands back, 0 where it gives none, and the number and place it reaches
+unfoldable pub stepOf : Walk → Stepped
+stepOf w = record { length = length (handed w); number = stepped w .number; place = stepped w .place }
+
+-- opening in numbers: the check's answer, and where the walk starts
+unfoldable pub startOf : Opened → Start
+startOf o = record { checked = o .checked; number = o .walk .number; place = o .walk .place; count = o .walk .count }
 
 -- a walk after some steps
 unfoldable pub after : (steps : ℕ) → Walk → Walk

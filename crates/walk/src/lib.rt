@@ -1,7 +1,7 @@
 // The gate walk: it carries a lent netlist and hands back one gate record after the other. `record_at` does the reading, on plain
 // parameters; the functions over the struct take it apart and have no branch of their own.
 ghost use mathlib.Core.Path.{_≡_};
-ghost use Rattle.walk.specs.Walk.{foundAt, partOf, movedOf, handed, stepped, gatesIn, opened};
+ghost use Rattle.walk.specs.Walk.{foundAt, partOf, movedOf, handed, stepped, gatesIn, opened, walkAt, stepOf, startOf};
 use netlist::Checked;
 
 pub struct Walk<'a> {
@@ -116,5 +116,51 @@ pub fn open<'a>(netlist: &'a [u8]) -> Opened<'a>
             count,
         },
         checked,
+    }
+}
+
+// One step in numbers: the bytes of the part, 0 for none, and the number and place reached.
+pub struct Stepped {
+    pub length: usize,
+    pub number: usize,
+    pub place: usize,
+}
+
+// Makes a walk at any number and place and steps it.
+pub fn step_at(netlist: &[u8], number: usize, place: usize, count: usize) -> Stepped
+    ensures { λ r. ⌜ r ≡ stepOf (walkAt (netlist .entry) number place count) ⌝ }
+{
+    let mut walk = Walk {
+        netlist,
+        number,
+        place,
+        count,
+    };
+    let part = walk.step();
+    Stepped {
+        length: part.len(),
+        number: walk.number,
+        place: walk.place,
+    }
+}
+
+// Where an opened walk starts, beside the check's answer.
+pub struct Start {
+    pub checked: Checked,
+    pub number: usize,
+    pub place: usize,
+    pub count: usize,
+}
+
+// Opens a walk and says where it starts.
+pub fn open_at(netlist: &[u8]) -> Start
+    ensures { λ r. ⌜ r ≡ startOf (opened (netlist .entry)) ⌝ }
+{
+    let opened = open(netlist);
+    Start {
+        checked: opened.checked,
+        number: opened.walk.number,
+        place: opened.walk.place,
+        count: opened.walk.count,
     }
 }

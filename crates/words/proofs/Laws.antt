@@ -1,7 +1,7 @@
 -- Laws of words, ranges, marks and the tie. Assumes nothing.
 use Prim.Native.Nat.{ℕ, zero, suc, _+_, _-_, _*_, _%_, _≤_, _<_}
 use native.Mathlib.Omega.{arith}
-use native.Mathlib.Nat.{add-zero, mul-add, suc-mul, mod-add-mod, add-mod-mod, add-mod, mod-eq-of-lt}
+use native.Mathlib.Nat.{add-zero, add-mul, mul-add, suc-mul, mod-add-mod, add-mod-mod, add-mod, mod-eq-of-lt}
 use native.Mathlib.Numerals.{add-one}
 use mathlib.Core.Path.{_≡_, refl, sym, _∙_, ap}
 use mathlib.Core.List.{List, [], _∷_}
@@ -10,7 +10,8 @@ use borrow.Author.Tests.{lt-ltb, le-ltb, ltb-false, eq-eqb, ne-eqb}
 use lib.Dec.{eqb, ltb}
 use lib.ListN.{length, getD, drop, List·getD-eq-default}
 use lib.Seq.{drop-cons, drop-length}
-use Rattle.words.specs.Words.{byteAt, wordAt, longAt, wordsAt, marked, outside, grown, tieFrom, sumAt, weightAt}
+use Rattle.words.specs.Words.{byteAt, wordAt, longAt, wordsAt, marked, outside, grown, tieFrom}
+use Rattle.words.specs.Blocks.{sumAt, weightAt}
 
 -- past the end all is 0
 pub word-past : (s : List ℕ) (at : ℕ) → length s ≤ at → 0 ≡ wordAt s at
@@ -107,6 +108,10 @@ pub tie-block : (n a b : ℕ) (s : List ℕ) (i : ℕ) → a < 4294967296 → b 
 tie-block n a b s i p q h =
     let e : tieFrom (a % 4294967296) (b % 4294967296) (drop i s) ≡ tieFrom a b (drop i s) = rw (mod-eq-of-lt p, mod-eq-of-lt q) in
     sym e ∙ exact-mod a b (drop i s) ∙ ap (λ x. x % 4294967296) (exact-block n a b s i h) ∙ sym (exact-mod _ _ _)
+
+-- what the blocks carry over: a number doubled, wrapping, and put into the second sum
+pub doubled : (n a x y : ℕ) → x ≡ n * a % 4294967296 → y ≡ (x + x) % 4294967296 → y ≡ (n + n) * a % 4294967296
+doubled n a x y e d = d ∙ rw (e, ← add-mod (n * a) (n * a) 4294967296, add-mul n n a)
 
 pub carried : (b c w : ℕ) → ((b + c % 4294967296) % 4294967296 + w) % 4294967296 ≡ (b + c + w) % 4294967296
 carried b c w = rw (add-mod-mod b c 4294967296, mod-add-mod (b + c) 4294967296 w)

@@ -1,1 +1,3 @@
 pub mod Words
+pub mod Refusal
+pub mod Blocks

@@ -39,12 +39,3 @@ tieFrom a b (x ∷ s) = tieFrom (grown a x) (grown b (grown a x)) s
 
 unfoldable pub tieOf : List ℕ → ℕ
 tieOf s = tieFrom 0 0 s
-
--- what n bytes from a place on add to the two sums: the bytes, and the bytes with the weights n to 1
-unfoldable pub sumAt : ℕ → List ℕ → ℕ → ℕ
-sumAt zero s at = 0
-sumAt (suc n) s at = byteAt s at + sumAt n s (at + 1)
-
-unfoldable pub weightAt : ℕ → List ℕ → ℕ → ℕ
-weightAt zero s at = 0
-weightAt (suc n) s at = suc n * byteAt s at + weightAt n s (at + 1)

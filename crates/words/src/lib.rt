@@ -1,8 +1,10 @@
 // What the files' bytes say: words of two and four bytes, the mark, ranges, and the tie.
 ghost use mathlib.Core.Path.{_≡_};
-ghost use Prim.Native.Nat.{_+_, _≤_};
+ghost use Prim.Native.Nat.{_+_, _*_, _%_, _≤_};
 ghost use lib.ListN.{length, drop};
-ghost use Rattle.words.specs.Words.{byteAt, wordAt, longAt, marked, outside, sumAt, weightAt, tieFrom, tieOf};
+ghost use Rattle.words.specs.Words.{byteAt, wordAt, longAt, marked, outside, tieFrom, tieOf};
+ghost use Rattle.words.specs.Blocks.{sumAt, weightAt};
+use std::num::wrapping_add_u32;
 
 // The byte at a place, and 0 past the end.
 pub fn byte_at(s: &[u8], at: usize) -> u8
@@ -68,7 +70,7 @@ fn block_sum(s: &[u8], at: usize) -> u32
 {
     let mut sum: u32 = 0;
     for k in 0..64 {
-        sum += s[at + k] as u32;
+        sum = wrapping_add_u32(sum, s[at + k] as u32);
     }
     sum
 }
@@ -80,9 +82,21 @@ fn block_weight(s: &[u8], at: usize) -> u32
 {
     let mut sum: u32 = 0;
     for k in 0..64 {
-        sum += (64 - k) as u32 * s[at + k] as u32;
+        sum = wrapping_add_u32(sum, (64 - k) as u32 * s[at + k] as u32);
     }
     sum
+}
+
+// 64 times a number, wrapping: what a block adds to the second sum by the first.
+fn times_64(a: u32) -> u32
+    ensures { λ r. ⌜ r ≡ 64 * a % 4294967296 ⌝ }
+{
+    let two = wrapping_add_u32(a, a);
+    let four = wrapping_add_u32(two, two);
+    let eight = wrapping_add_u32(four, four);
+    let sixteen = wrapping_add_u32(eight, eight);
+    let thirty_two = wrapping_add_u32(sixteen, sixteen);
+    wrapping_add_u32(thirty_two, thirty_two)
 }
 
 // The tie from a place on, with the two sums of the bytes before.
@@ -94,8 +108,8 @@ fn tie_from(s: &[u8], start: usize, first: u32, second: u32) -> u32
     let mut b = second;
     let mut i = start;
     while i < s.len() {
-        a = std::num::wrapping_add_u32(a, s[i] as u32);
-        b = std::num::wrapping_add_u32(b, a);
+        a = wrapping_add_u32(a, s[i] as u32);
+        b = wrapping_add_u32(b, a);
         i += 1;
     }
     b
@@ -109,10 +123,9 @@ pub fn tie(s: &[u8]) -> u32
     let mut b: u32 = 0;
     let mut i: usize = 0;
     while i + 64 <= s.len() {
-        let carried = (64 * (a as u64) % 4294967296) as u32;
-        b = std::num::wrapping_add_u32(b, carried);
-        b = std::num::wrapping_add_u32(b, block_weight(s, i));
-        a = std::num::wrapping_add_u32(a, block_sum(s, i));
+        b = wrapping_add_u32(b, times_64(a));
+        b = wrapping_add_u32(b, block_weight(s, i));
+        a = wrapping_add_u32(a, block_sum(s, i));
         i += 64;
     }
     tie_from(s, i, a, b)

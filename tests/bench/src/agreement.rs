@@ -181,6 +181,7 @@ const COUNT: usize = 2;
 
 fn agrees(mut version: impl Version) {
     let mut random = Random::new(71);
+    let mut accepted = 0;
     for round in 0..3000 {
         let card = match round % 20 {
             0 => random::any_card(&mut random),
@@ -193,7 +194,9 @@ fn agrees(mut version: impl Version) {
             _ => {}
         }
         assert_eq!(version.netlist(&netlist), right::netlist(&netlist));
-        assert_eq!(version.list(&netlist, &list), right::list(&netlist, &list));
+        let right = right::list(&netlist, &list);
+        assert_eq!(version.list(&netlist, &list), right);
+        accepted += usize::from(right.0 == 0);
         for change in 0..=COUNT {
             one_change(&mut version, &netlist, &list, change);
         }
@@ -203,6 +206,7 @@ fn agrees(mut version: impl Version) {
             reference::program::printed(&netlist, &list)
         );
     }
+    assert!((1500..2500).contains(&accepted), "{accepted} accepted");
 }
 
 #[test]

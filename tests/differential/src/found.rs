@@ -1,13 +1,21 @@
-//! The library's answers.
+//! The library's answers, each with the stack that a caller must have.
 
-use crate::Answer;
+use crate::{stack, Answer, Step};
 use lanecard::Values;
+
+pub fn join(operation: u8, a: u8, b: u8) -> u8 {
+    stack::within(|| lanecard::join(operation, a, b))
+}
+
+pub fn invert(a: u8) -> u8 {
+    stack::within(|| lanecard::invert(a))
+}
 
 /// Calls with room for five values, filled so that a missing write shows, and
 /// on the heap so that valgrind sees one past them.
-fn answer(call: impl FnOnce(&mut Values) -> u32) -> Answer {
+fn answer(call: impl FnOnce(&mut Values) -> u32 + Send) -> Answer {
     let mut values = Box::new([u64::MAX; 5]);
-    let number = call(&mut values);
+    let number = stack::within(|| call(&mut values));
     (number, *values)
 }
 
@@ -41,4 +49,18 @@ pub fn forward_all(n: &[u8], l: &[u8], buffer: &mut [u8]) -> Answer {
 
 pub fn core_all(n: &[u8], l: &[u8], buffer: &mut [u8]) -> Answer {
     answer(|values| lanecard::core_all(n, l, buffer, values))
+}
+
+pub fn walk(n: &[u8]) -> Answer {
+    answer(|values| lanecard::walk(n, values))
+}
+
+/// The part is the netlist's bytes from the place on, as many as the answer says.
+pub fn step(n: &[u8], number: usize, place: usize, count: usize) -> Step<'_> {
+    let answer = answer(|values| lanecard::step(n, number, place, count, values));
+    let part = match answer.1[0] {
+        0 => None,
+        length => n.get(place..).and_then(|rest| rest.get(..length as usize)),
+    };
+    (answer, part)
 }

@@ -2,9 +2,13 @@
 
 pub mod found;
 pub mod right;
+pub mod stack;
 
 /// The refusal's number, 0 for none, and the five values.
 pub type Answer = (u32, lanecard::Values);
+
+/// A step of a gate walk: its answer and the part that it hands back.
+pub type Step<'a> = (Answer, Option<&'a [u8]>);
 
 /// What differs, in words.
 pub type Difference = String;

@@ -1,12 +1,13 @@
 //! `differential N SEED`: compares all operations of the library with the
 //! reference on N random cards, accepted and damaged, with all buffers' bytes.
 //! Stops with status 1 at the first difference and keeps the two files of that
-//! card. From 1,000 cards on it also fails if a call was never accepted or a
-//! refusal never met, for then it has compared too little.
+//! card. It also fails if it has compared too little: a call was never accepted,
+//! a walk never gave a record or none, or, from 1,000 cards on, a refusal was
+//! never met.
 
-use differential::{found, right, same, same_filling, Answer, Difference};
+use differential::{found, right, same, same_filling, stack, Answer, Difference, Step};
 use reference::classes::ALL;
-use reference::netlist::Card;
+use reference::netlist::{Card, HEAD};
 use reference::random::{self, Random};
 use std::path::PathBuf;
 use std::process::ExitCode;
@@ -28,9 +29,10 @@ enum Call {
     FullAll,
     ForwardAll,
     CoreAll,
+    Walk,
 }
 
-const CALLS: [(Call, &str); 8] = [
+const CALLS: [(Call, &str); 9] = [
     (Call::Netlist, "netlist"),
     (Call::List, "list"),
     (Call::Full, "full"),
@@ -39,6 +41,7 @@ const CALLS: [(Call, &str); 8] = [
     (Call::FullAll, "full_all"),
     (Call::ForwardAll, "forward_all"),
     (Call::CoreAll, "core_all"),
+    (Call::Walk, "walk"),
 ];
 
 impl Call {
@@ -49,7 +52,7 @@ impl Call {
     /// The refusals that it can meet; nothing meets 21.
     fn refusals(self) -> Vec<usize> {
         match self {
-            Call::Netlist => (1..=10).collect(),
+            Call::Netlist | Call::Walk => (1..=10).collect(),
             Call::List => (1..=17).collect(),
             Call::Full | Call::Forward => (1..=18).chain([20]).collect(),
             Call::Core => (1..=19).collect(),
@@ -58,18 +61,23 @@ impl Call {
     }
 }
 
-/// Answers by call and refusal number; 0 is accepted.
+/// Answers by call and refusal number; 0 is accepted. Steps of gate walks by
+/// what they hand back.
 #[derive(Default)]
-struct Counts([[usize; 22]; CALLS.len()]);
+struct Counts {
+    answers: [[usize; 22]; CALLS.len()],
+    records: usize,
+    nones: usize,
+}
 
 impl Counts {
     fn note(&mut self, call: Call, answer: &Answer) {
-        self.0[call as usize][answer.0 as usize] += 1;
+        self.answers[call as usize][answer.0 as usize] += 1;
     }
 
     fn print(&self) {
         for (call, name) in CALLS {
-            let counts = &self.0[call as usize];
+            let counts = &self.answers[call as usize];
             let all: usize = counts.iter().sum();
             print!("{name:>11}: {all} calls, {} accepted, refused", counts[0]);
             for (number, count) in counts.iter().enumerate().skip(1) {
@@ -79,20 +87,29 @@ impl Counts {
             }
             println!();
         }
+        let (records, nones) = (self.records, self.nones);
+        println!("{:>11}: {records} records, {nones} times none", "step");
     }
 
-    /// The first call and number that were not met.
-    fn missing(&self) -> Option<String> {
+    /// Has each call been met with every answer that so many cards should bring?
+    fn enough(&self, rounds: usize) -> Result<(), Difference> {
         for (call, name) in CALLS {
-            let met = |number: &usize| self.0[call as usize][*number] > 0;
+            let met = |number: &usize| self.answers[call as usize][*number] > 0;
             if !met(&0) {
-                return Some(format!("{name} was never accepted"));
+                return Err(format!("{name} was never accepted"));
             }
-            if let Some(number) = call.refusals().into_iter().find(|number| !met(number)) {
-                return Some(format!("{name} never met refusal {number}"));
+            match call.refusals().into_iter().find(|number| !met(number)) {
+                Some(number) if rounds >= 1000 => {
+                    return Err(format!("{name} never met refusal {number}"));
+                }
+                _ => {}
             }
         }
-        None
+        match (self.records, self.nones) {
+            (0, _) => Err("step never handed back a record".to_string()),
+            (_, 0) => Err("step never gave none".to_string()),
+            _ => Ok(()),
+        }
     }
 }
 
@@ -101,13 +118,13 @@ fn compare_classes() -> Result<(), Difference> {
     for a in ALL {
         for b in ALL {
             for operation in [0, 1] {
-                let found = lanecard::join(operation, a.code(), b.code());
+                let found = found::join(operation, a.code(), b.code());
                 let cell = format!("join {operation} {} {}", a.name(), b.name());
                 same(&cell, &found, &right::join(operation, a, b))?;
             }
         }
         let cell = format!("invert {}", a.name());
-        same(&cell, &lanecard::invert(a.code()), &right::invert(a))?;
+        same(&cell, &found::invert(a.code()), &right::invert(a))?;
     }
     Ok(())
 }
@@ -119,6 +136,16 @@ fn around(random: &mut Random, length: usize) -> usize {
         1 => length.saturating_sub(1),
         2 => length + random.below(100),
         _ => length,
+    }
+}
+
+/// A number about a count, or far past it.
+fn near(random: &mut Random, count: usize) -> usize {
+    match random.below(6) {
+        0 => random.pick(&[1 << 16, 1 << 32, 1 << 63]),
+        1 => usize::MAX - random.below(20),
+        2 => (count + random.below(5)).saturating_sub(2),
+        _ => random.below(count + 1),
     }
 }
 
@@ -190,6 +217,42 @@ impl Round<'_> {
         Ok(())
     }
 
+    /// A step of a gate walk, with the bytes of its part.
+    fn step(&mut self, number: usize, place: usize, count: usize) -> Result<Step<'_>, Difference> {
+        let n = &self.files.netlist;
+        let right = right::step(n, number, place, count);
+        let call = format!("step at number {number} of {count}, place {place}");
+        same(&call, &found::step(n, number, place, count), &right)?;
+        match right.1 {
+            Some(_) => self.counts.records += 1,
+            None => self.counts.nones += 1,
+        }
+        Ok(right)
+    }
+
+    /// Opens a gate walk and steps until there is none, then steps anywhere.
+    fn walk(&mut self) -> Result<(), Difference> {
+        let n = &self.files.netlist;
+        let opened = right::walk(n);
+        self.answers(Call::Walk, found::walk(n), opened)?;
+        // The bytes of a refused netlist are stepped through all the same.
+        let (mut number, mut place, count) = match opened {
+            (0, [number, place, count, ..]) => (number as usize, place as usize, count as usize),
+            _ => (0, HEAD, usize::MAX),
+        };
+        while let ((_, [_, next, past, ..]), Some(_)) = self.step(number, place, count)? {
+            (number, place) = (next as usize, past as usize);
+        }
+        let (length, gates) = (n.len(), self.card.gates.len());
+        for _ in 0..10 {
+            let place = near(self.random, length);
+            let (number, count) = (near(self.random, gates), near(self.random, gates));
+            self.step(number, place, count)?;
+            self.step(0, place, usize::MAX)?;
+        }
+        Ok(())
+    }
+
     /// The two checks; are the files accepted?
     fn checks(&mut self) -> Result<bool, Difference> {
         let (n, l) = (&self.files.netlist, &self.files.list);
@@ -222,6 +285,7 @@ impl Round<'_> {
     fn compare(&mut self) -> Result<(), Difference> {
         let (changes, entries) = (self.changes, self.card.outputs.len());
         let past_output = self.random.pick(&[entries, 64, 1 << 32, usize::MAX]);
+        self.walk()?;
         if self.checks()? {
             let outputs: Vec<usize> = (0..entries).chain([past_output]).collect();
             for change in 0..changes {
@@ -298,10 +362,8 @@ fn compare(rounds: usize, seed: u64) -> Result<Counts, Difference> {
             Err(error) => format!("{difference}\nits files could not be kept: {error}"),
         });
     }
-    match counts.missing() {
-        Some(missing) if rounds >= 1000 => Err(missing),
-        _ => Ok(counts),
-    }
+    counts.enough(rounds)?;
+    Ok(counts)
 }
 
 fn main() -> ExitCode {
@@ -314,7 +376,7 @@ fn main() -> ExitCode {
         eprintln!("differential N SEED");
         return ExitCode::FAILURE;
     };
-    match compare(rounds, seed) {
+    match stack::within(|| compare(rounds, seed)) {
         Ok(counts) => {
             counts.print();
             println!("{rounds} cards, no difference");

@@ -1,10 +1,11 @@
 //! The reference's answers in the library's form.
 
-use crate::Answer;
+use crate::{Answer, Step};
 use lanecard::Values;
 use reference::classes::{rule, rule_not, Class, Operation};
 use reference::core::Verdict;
 use reference::netlist::{Card, Refused};
+use reference::walk::Walk;
 use reference::{changes, forward, full, netlist};
 
 pub fn join(operation: u8, a: Class, b: Class) -> u8 {
@@ -109,4 +110,27 @@ pub fn core_all(n: &[u8], l: &[u8], buffer: &mut [u8]) -> Answer {
         }
         Ok(sums)
     }))
+}
+
+// ---------------------------------------------------------------------------
+// The gate walk.
+
+fn values(first: usize, second: usize, third: usize) -> Values {
+    [first as u64, second as u64, third as u64, 0, 0]
+}
+
+pub fn walk(n: &[u8]) -> Answer {
+    answer(Walk::open(n).map(|walk| values(walk.number, walk.place, walk.gates)))
+}
+
+pub fn step(n: &[u8], number: usize, place: usize, count: usize) -> Step<'_> {
+    let mut walk = Walk {
+        netlist: n,
+        number,
+        place,
+        gates: count,
+    };
+    let part = walk.step();
+    let length = part.map_or(0, <[u8]>::len);
+    ((0, values(length, walk.number, walk.place)), part)
 }

@@ -6,7 +6,7 @@ use differential::{found, right, same_filling, Answer};
 use reference::cases;
 use reference::changes;
 use reference::classes::Class;
-use reference::netlist::{Card, Gate, Kind, MAX_GATES, MAX_INPUTS};
+use reference::netlist::{Card, MAX_GATES, MAX_INPUTS};
 use reference::random::{self, Random, Shape, SHAPES};
 
 type Filling = fn(&[u8], &[u8], &mut [u8]) -> Answer;
@@ -80,7 +80,12 @@ impl Seen {
         }
     }
 
+    /// Prints what was seen: clean and hazardous outputs, or it is too little.
     fn print(&self, name: &str) {
+        assert!(
+            self.hazardous > 0 && self.verdicts > self.hazardous,
+            "{name}"
+        );
         println!(
             "all {name}: {} calls compared, {} changes, {} of {} verdicts hazardous",
             self.calls, self.changes, self.hazardous, self.verdicts
@@ -249,36 +254,6 @@ fn longest_lists() {
     }
     assert!(seen.hazardous > 200 && seen.verdicts - seen.hazardous > 200);
     seen.print("longest lists");
-}
-
-/// The deepest searches in a thread with 1 MB of stack.
-#[test]
-fn deepest_cards_on_a_small_stack() {
-    let chain = |kind: Kind| Card {
-        inputs: 1,
-        gates: (0..MAX_GATES)
-            .map(|number| Gate {
-                kind,
-                pins: vec![number; *kind.pin_limits().end()],
-            })
-            .collect(),
-        outputs: vec![MAX_GATES, MAX_GATES - 1],
-    };
-    let work = move || {
-        for card in [Kind::Not, Kind::And, Kind::Nor].map(chain) {
-            let netlist = card.to_bytes();
-            let list = changes::to_bytes(&netlist, &[vec![Class::Rise], vec![Class::Fall]]);
-            for call in &CALLS {
-                let answer = call.compare(&netlist, &list, 2 * (call.width)(&card)).0;
-                assert_eq!(answer.0, 0);
-                if call.name == "core_all" {
-                    assert_eq!(answer.1[2], 4 * MAX_GATES as u64 - 2);
-                }
-            }
-        }
-    };
-    let thread = std::thread::Builder::new().stack_size(1 << 20);
-    thread.spawn(work).unwrap().join().unwrap();
 }
 
 #[test]

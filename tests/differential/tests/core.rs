@@ -3,6 +3,7 @@
 
 use differential::{found, right};
 use reference::cases;
+use reference::classes::Class;
 use reference::core::{self, Answer, Statistics, Verdict};
 use reference::netlist::{Card, Gate, Kind, KINDS, MAX_GATES};
 use reference::random::{self, Random, Shape, LIMITS, SHAPES};
@@ -30,7 +31,12 @@ impl Seen {
         self.with_carried_on += usize::from(statistics.carried_on > 0);
     }
 
+    /// Prints what was seen: clean and hazardous outputs, or it is too little.
     fn print(&self, name: &str) {
+        assert!(
+            self.hazardous > 0 && self.compared > self.hazardous,
+            "{name}"
+        );
         println!(
             "core {name}: {} cards, {} searches compared, {} hazardous, \
              {} with a visit that ended unfinished, {} with one carried on",
@@ -169,29 +175,23 @@ fn deep_chains() {
     seen.print("deep chains");
 }
 
-/// The deepest searches in a thread with 1 MB of stack.
+/// Changes in which nothing decides before the chain's end is reached.
 #[test]
-fn deep_chains_on_a_small_stack() {
-    let work = || {
-        let (mut compared, mut deepest) = (0, 0);
-        for card in chains() {
-            let netlist = card.to_bytes();
-            // Nothing decides before the chain's end is reached.
-            for (side, end) in [(0, 2), (1, 2), (0, 3), (1, 3), (2, 2), (2, 3)] {
-                let class = |code| reference::classes::Class::of_code(code);
-                let list = changes::to_bytes(&netlist, &[vec![class(side), class(end)]]);
-                let right = right::core(&netlist, &list, 0, 0);
-                assert_eq!(found::core(&netlist, &list, 0, 0), right);
-                compared += 1;
-                deepest = deepest.max(right.1[2]);
-            }
+fn chains_to_their_ends() {
+    let (mut compared, mut deepest) = (0, 0);
+    for card in chains() {
+        let netlist = card.to_bytes();
+        for (side, end) in [(0, 2), (1, 2), (0, 3), (1, 3), (2, 2), (2, 3)] {
+            let change = [side, end].map(Class::of_code).to_vec();
+            let list = changes::to_bytes(&netlist, &[change]);
+            let right = right::core(&netlist, &list, 0, 0);
+            assert_eq!(found::core(&netlist, &list, 0, 0), right);
+            compared += 1;
+            deepest = deepest.max(right.1[2]);
         }
-        assert_eq!(deepest, MAX_GATES as u64);
-        compared
-    };
-    let thread = std::thread::Builder::new().stack_size(1 << 20);
-    let compared = thread.spawn(work).unwrap().join().unwrap();
-    println!("core small stack: {compared} searches compared");
+    }
+    assert_eq!(deepest, MAX_GATES as u64);
+    println!("core chains to their ends: {compared} searches compared");
 }
 
 /// Every input of small cards for all 4^I changes: rare paths included.
@@ -206,9 +206,7 @@ fn all_changes_of_small_cards() {
         let all: Vec<changes::Change> = (0..1usize << (2 * inputs))
             .map(|number| {
                 (0..inputs)
-                    .map(|input| {
-                        reference::classes::Class::of_code((number >> (2 * input) & 3) as u8)
-                    })
+                    .map(|input| Class::of_code((number >> (2 * input) & 3) as u8))
                     .collect()
             })
             .collect();

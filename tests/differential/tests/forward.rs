@@ -29,7 +29,12 @@ impl Seen {
         self.without_search += usize::from(answer[1] == 0);
     }
 
+    /// Prints what was seen: clean and hazardous outputs, or it is too little.
     fn print(&self, name: &str) {
+        assert!(
+            self.hazardous > 0 && self.outputs > self.hazardous,
+            "{name}"
+        );
         println!(
             "forward {name}: {} calls compared, {} of {} outputs hazardous, \
              {} untouched, {} without a visit",

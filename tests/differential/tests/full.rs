@@ -99,7 +99,7 @@ fn change_numbers() {
 /// The list's refusals come first, whatever change and buffer are.
 #[test]
 fn damaged_files() {
-    let numbers = (1..=18).chain([20]);
+    let numbers = (0..=18).chain([20]);
     refusals::all_met(
         "full",
         35,

@@ -162,6 +162,7 @@ fn empty_and_long() {
         let netlist = bare(inputs).to_bytes();
         for count in [1, 1000] {
             let list = changes::to_bytes(&netlist, &ones(inputs, count));
+            compare(&mut met, &netlist, &list);
             for length in [65_535, 65_536, 65_537, 100_000] {
                 let mut longer = list.clone();
                 longer.resize(length, 0);

@@ -45,6 +45,8 @@ calls! {
     fn full_all = lane_full_all(netlist, list; ; buffer);
     fn forward_all = lane_forward_all(netlist, list; ; buffer);
     fn core_all = lane_core_all(netlist, list; ; buffer);
+    fn walk = lane_walk(netlist; ; );
+    fn step = lane_step(netlist; number, place, count; );
 }
 
 extern "C" {

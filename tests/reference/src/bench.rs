@@ -382,7 +382,7 @@ mod tests {
         let mut random = Random::new(7);
         let (mut explored_cards, mut states, mut ends) = (0, 0, 0);
         let mut met = [0; 8];
-        while explored_cards < 800 {
+        for _ in 0..1000 {
             let (card, change) = small(&mut random);
             let classes = full::classes(&card, &change);
             let bench = Bench::new(&card, &change);
@@ -400,6 +400,7 @@ mod tests {
             states += explored.states.len();
             ends += complete;
         }
+        assert!(explored_cards >= 800, "{explored_cards} cards explored");
         assert!(met.iter().all(|times| *times > 20), "{met:?}");
         println!("bench: {explored_cards} cards, {states} states, {ends} ends, classes {met:?}");
     }
@@ -408,6 +409,7 @@ mod tests {
     #[test]
     fn other_lists_change_nothing_where_not_allowed() {
         let mut random = Random::new(8);
+        let (mut lists, mut complete) = (0, 0);
         for _ in 0..200 {
             let (card, change) = small(&mut random);
             let bench = Bench::new(&card, &change);
@@ -420,10 +422,13 @@ mod tests {
                 let events: Vec<Event> = (0..length).map(|_| random.pick(&all)).collect();
                 let state = bench.run(&events);
                 assert!(explored.states.contains(&state));
+                lists += 1;
                 if bench.complete(&state) {
                     assert!(bench.settled_at_end(&state));
+                    complete += 1;
                 }
             }
         }
+        assert!(lists >= 1000 && complete >= 100, "{lists} {complete}");
     }
 }

@@ -4,6 +4,7 @@ use crate::changes::Change;
 use crate::classes::{from_tables, Class, Operation, ALL};
 use crate::full;
 use crate::netlist::{refused, Card, Gate, Refused};
+use crate::stack;
 
 /// What CORE answers.
 #[derive(Clone, Copy, Debug, PartialEq, Eq, Hash)]
@@ -262,17 +263,10 @@ const DEEP: usize = 256;
 const STACK: usize = 32 << 20;
 
 fn on_deep_stack<T: Send>(sources: &[Source], work: impl FnOnce() -> T + Send) -> T {
-    if sources.len() <= DEEP {
-        return work();
+    match sources.len() <= DEEP {
+        true => work(),
+        false => stack::run(STACK, work),
     }
-    std::thread::scope(|scope| {
-        std::thread::Builder::new()
-            .stack_size(STACK)
-            .spawn_scoped(scope, work)
-            .expect("a thread for the search")
-            .join()
-            .expect("the search ends")
-    })
 }
 
 /// Searches for several signals, each afresh.

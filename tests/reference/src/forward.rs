@@ -138,10 +138,11 @@ mod tests {
                 classes.iter().map(|class| constant(*class)).collect();
             assert_eq!(constants(&card, &change), by_class);
             let (answers, _) = verdicts(&card, &change);
-            for (output, answer) in card.outputs.iter().zip(answers) {
-                let clean = answer.verdict != Verdict::Hazardous;
-                assert_eq!(clean, classes[*output].is_clean());
-            }
+            let clean = |answer: &Answer| answer.verdict != Verdict::Hazardous;
+            let found: Vec<bool> = answers.iter().map(clean).collect();
+            let clean = |output: &usize| classes[*output].is_clean();
+            let right: Vec<bool> = card.outputs.iter().map(clean).collect();
+            assert_eq!(found, right);
         }
     }
 }

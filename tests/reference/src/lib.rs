@@ -13,5 +13,6 @@ pub mod full;
 pub mod netlist;
 pub mod program;
 pub mod random;
+pub mod stack;
 pub mod text;
 pub mod walk;

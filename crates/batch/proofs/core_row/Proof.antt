@@ -7,10 +7,11 @@ use lib.ListN.{length, take, drop}
 use lib.Seq.{drop-at}
 use Rattle.kung.specs.Class.{Class}
 use Rattle.netlist.specs.Netlist.{inputsOf}
-use Rattle.changes.specs.Changes.{widthOf, inputClassAt, inputCodes, codeAt}
+use Rattle.changes.specs.Changes.{widthOf, inputClassAt}
+use Rattle.changes.specs.Written.{inputCodes, codeAt}
 use Rattle.changes.proofs.Laws.{tab-length}
 use Rattle.changes.proofs.Accepted.{listed}
-use Rattle.visit.specs.Source.{inputsKnown}
+use Rattle.visit.specs.Lent.{inputsKnown}
 use Rattle.core.proofs.Entry.{known-is, known-length}
 use Rattle.batch.proofs.Changes.{card, searchable, sums-are, bytes-are}
 use borrow.Author.Needs.{needs}
@@ -91,8 +92,8 @@ returns c =
     let s = begun f in
     let r = c .before .before .before .before .search-outputs .ensures in (
       r .0 ∙ sums-are _ _ (s .pre .0 .of .accepted) (s .args .change) _ (known f) (λ a. a .gates),
-      r .1 ∙ sums-are _ _ (s .pre .0 .of .accepted) (s .args .change) _ (known f) (λ a. a .pins),
-      r .2 ∙ bytes-are _ _ (s .pre .0 .of .accepted) (s .args .change) _ (known f) _,
+      r .1 .0 ∙ sums-are _ _ (s .pre .0 .of .accepted) (s .args .change) _ (known f) (λ a. a .pins),
+      r .1 .1 .0 ∙ bytes-are _ _ (s .pre .0 .of .accepted) (s .args .change) _ (known f) _,
       past f,
     )
 

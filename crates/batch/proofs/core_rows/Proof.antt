@@ -7,8 +7,8 @@ use lib.ListN.{length}
 use Rattle.changes.proofs.Accepted.{listed}
 use Rattle.forward.proofs.Answers.{places-fit}
 use Rattle.batch.specs.declared.Judged.the-variants.{Done}
-use Rattle.batch.specs.Batch.{coreSum, coreOf, rowed}
-use Rattle.batch.specs.Lent.{Room}
+use Rattle.batch.specs.Batch.{coreSum, coreOf}
+use Rattle.batch.specs.Lent.{Room, rowed}
 use Rattle.batch.proofs.Rows.{lent-room, rowed-none, rowed-kept, rowed-room, rowed-next}
 use Rattle.batch.proofs.Changes.{Counted, counted-none, counted-next, card, core-regular, searched-high}
 use borrow.Author.Needs.{needs}

@@ -7,7 +7,8 @@ use Rattle.changes.proofs.Accepted.{listed}
 use Rattle.forward.specs.Forward.{touchedIn, visitedIn}
 use Rattle.forward.proofs.Answers.{places-fit}
 use Rattle.batch.specs.declared.Judged.the-variants.{Done}
-use Rattle.batch.specs.Batch.{forwardOf, rowed}
+use Rattle.batch.specs.Batch.{forwardOf}
+use Rattle.batch.specs.Lent.{rowed}
 use Rattle.batch.proofs.Rows.{lent-room, rowed-none, rowed-kept, rowed-room, rowed-next}
 use Rattle.batch.proofs.Changes.{Counted, counted-none, counted-next, card, forward-regular, touched-high, visited-high}
 use borrow.Author.Needs.{needs}

@@ -4,7 +4,8 @@ use native.Mathlib.Omega.{arith}
 use mathlib.Core.Path.{_≡_, ap}
 use lib.ListN.{length}
 use Rattle.simulate.proofs.Answers.{ready}
-use Rattle.batch.specs.Batch.{fullOf, rowed}
+use Rattle.batch.specs.Batch.{fullOf}
+use Rattle.batch.specs.Lent.{rowed}
 use Rattle.batch.proofs.Rows.{lent-room, rowed-none, rowed-kept, rowed-room, rowed-next}
 use Rattle.batch.specs.declared.Judged.the-variants.{Done}
 use Rattle.batch.proofs.Changes.{card, full-regular}

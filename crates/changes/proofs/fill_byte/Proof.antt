@@ -4,7 +4,7 @@ use native.Mathlib.Omega.{arith}
 use mathlib.Core.Path.{_≡_, _∙_, ap}
 use lib.ListN.{length}
 use borrow.Author.Needs.{needs}
-use Rattle.changes.specs.Changes.{codeIn, written}
+use Rattle.changes.specs.Written.{codeIn, written}
 use Rattle.changes.proofs.Laws.{written-none, written-more, written-kept}
 use Rattle.changes.proofs.fill_byte.Statement.{statement}
 use Rattle.changes.proofs.fill_byte.Tie as tie

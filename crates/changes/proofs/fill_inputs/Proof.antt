@@ -4,7 +4,8 @@ use native.Mathlib.Omega.{arith}
 use mathlib.Core.Path.{_≡_, _∙_, ap}
 use lib.ListN.{length}
 use borrow.Author.Needs.{needs}
-use Rattle.changes.specs.Changes.{sizeOf, codeAt, written}
+use Rattle.changes.specs.Changes.{sizeOf}
+use Rattle.changes.specs.Written.{codeAt, written}
 use Rattle.changes.proofs.Laws.{change-high, written-none, written-kept, written-all, byte-written}
 use Rattle.changes.proofs.fill_inputs.Statement.{statement}
 use Rattle.changes.proofs.fill_inputs.Tie as tie

@@ -11,7 +11,9 @@ use Rattle.changes.specs.Refusals.{listChecked}
 use Rattle.changes.proofs.Accepted.{listed}
 use Rattle.search.specs.Search
 use Rattle.visit.specs.Found.{foundOf}
-use Rattle.core.specs.Core.{Searchable, guardedFound, searchOf}
+use Rattle.core.specs.Core.{searchOf}
+use Rattle.core.specs.Codes.{guardedFound}
+use Rattle.core.specs.Lent.{Searchable}
 use Rattle.core.proofs.Entry.{refused-list, refused-change, refused-output, answers, searchable, guard-is}
 use borrow.Author.Needs.{needs}
 use Rattle.core.proofs.core.Statement.{statement}

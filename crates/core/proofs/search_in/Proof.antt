@@ -6,10 +6,12 @@ use mathlib.Core.List.{_++_}
 use lib.ListN.{length, take, drop}
 use Rattle.kung.specs.Class.{Class}
 use Rattle.netlist.specs.Netlist.{inputsOf}
-use Rattle.changes.specs.Changes.{widthOf, inputClassAt, inputCodes}
+use Rattle.changes.specs.Changes.{widthOf, inputClassAt}
+use Rattle.changes.specs.Written.{inputCodes}
 use Rattle.search.specs.Search
-use Rattle.visit.specs.Source.{sourceFrom, GatesOnly, inputsKnown}
+use Rattle.visit.specs.Source.{sourceFrom}
 use Rattle.visit.specs.Found.{foundOf}
+use Rattle.visit.specs.Lent.{inputsKnown, GatesOnly}
 use Rattle.core.proofs.Cards.{ready, inputs-only}
 use Rattle.core.proofs.Entry.{known-is, known-length, search-is, clean-set}
 use borrow.Author.Needs.{needs}
@@ -86,7 +88,7 @@ returns : tie.Need-returns
 returns c =
     let f = c .before .before .before .before .before .before .before .before .before .before in
     let a = begun f .args in
-    c .before .before .find .ensures ∙ ap₂ (λ k w. foundOf (Search.search (sourceFrom (a .netlist .now) k) w (a .s))) (known f) (sym clean-set)
+    c .before .before .find .ensures .0 ∙ ap₂ (λ k w. foundOf (Search.search (sourceFrom (a .netlist .now) k) w (a .s))) (known f) (sym clean-set)
     ∙ ap foundOf (search-is (a .netlist .now) (a .list .now) (a .change) _ (a .s))
 
 pub search-in-spec : {M : Type 1} → statement M

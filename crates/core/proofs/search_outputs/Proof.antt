@@ -1,14 +1,15 @@
--- `core::search_outputs` meets its contract. The loop's invariant: the first outputs are searched, their bytes written, their gates and pins summed.
+-- `core::search_outputs` meets its contract. The loop's invariant: the first outputs are searched, their bytes written, their gates and pins summed, and
+-- the cells are as the searches leave them.
 -- Assumes nothing.
 use Prim.Native.Nat.{_-_, _*_, _≤_}
 use native.Mathlib.Omega.{arith}
 use mathlib.Core.Path.{_≡_, refl, _∙_, ap}
 use lib.ListN.{length}
-use Rattle.changes.specs.Changes.{written}
+use Rattle.changes.specs.Written.{written}
 use Rattle.changes.proofs.Laws.{written-none, written-kept}
 use Rattle.search.specs.Pins.{sumBelow}
-use Rattle.core.specs.Outputs.{byteFrom, sumFrom}
-use Rattle.core.proofs.Outputs.{found-is, found-few, found-next, found-byte}
+use Rattle.core.specs.Outputs.{byteFrom, sumFrom, cellsFrom}
+use Rattle.core.proofs.Outputs.{found-is, found-few, found-next, found-byte, cells-next}
 use borrow.Author.Needs.{needs}
 use Rattle.core.proofs.search_outputs.Statement.{statement}
 use Rattle.core.proofs.search_outputs.Tie as tie
@@ -17,6 +18,7 @@ abbrev Inv-loop : tie.InvT-loop
 Inv-loop images wanteds netlist places known cells₀ inputs outputs entries buffer₀ gates₀ pins₀ output₀ cells buffer gates pins output =
     (output ≤ outputs) × (gates ≡ sumFrom (λ a. a .gates) netlist known entries output) × (pins ≡ sumFrom (λ a. a .pins) netlist known entries output)
     × (gates ≤ 18432 * output) × (pins ≤ 18432 * output) × (buffer ≡ written buffer₀ 0 (byteFrom netlist known entries) output) × (length cells ≡ length cells₀)
+    × (cells ≡ cellsFrom netlist known entries output cells₀)
 
 abbrev μ-loop : tie.MeasureT-loop
 μ-loop images wanteds netlist places known cells₀ inputs outputs entries buffer₀ gates₀ pins₀ output₀ cells buffer gates pins output =
@@ -27,8 +29,8 @@ kept : (c : tie.At-loop Inv-loop μ-loop) → length (c .loop .buffer) ≡ lengt
 kept c = ap length (c .loop .inv .5) ∙ written-kept _ _ _ _ (omega (arith, c .before .before .before .before .before .before .pre .0 .enough))
 
 loop-holds : tie.Need-loop-holds Inv-loop μ-loop
-unfolding sumBelow
-loop-holds c = (search needs, refl, refl, search needs, search needs, written-none _ _ _, refl)
+unfolding sumBelow cellsFrom
+loop-holds c = (search needs, refl, refl, search needs, search needs, written-none _ _ _, refl, refl)
 
 entry-at-requires : tie.Need-entry-at-requires Inv-loop μ-loop
 entry-at-requires c κs = search needs
@@ -57,7 +59,7 @@ few c =
     let l = c .before .before .before .before in
     let p = l .before .before .before .before .before .before .pre .0 in
     let at = c .before .before .entry-at .ensures in
-    let most = found-few _ _ _ _ _ at _ (c .find .ensures) (p .ready) in
+    let most = found-few _ _ _ _ _ at _ (c .find .ensures .0) (p .ready) in
     (omega (arith, at, p .signals-high, p .output-below (l .loop .output) (c .before .before .before .loop-test .taken), most .0), most .1)
 
 add-gates : tie.Need-add-gates Inv-loop μ-loop
@@ -82,14 +84,15 @@ loop-again c =
     let l = f .before .before .before .before in
     let b = l .before .before .before .before .before .before in
     let at = f .before .before .entry-at .ensures in
-    let is = found-is _ _ _ _ _ at _ (f .find .ensures) in (
+    let is = found-is _ _ _ _ _ at _ (f .find .ensures .0) in (
       search needs,
-      found-next _ _ _ _ _ at _ (f .find .ensures) (λ a. a .gates) _ _ (l .loop .inv .1) (ap (λ f. f .gates) is),
-      found-next _ _ _ _ _ at _ (f .find .ensures) (λ a. a .pins) _ _ (l .loop .inv .2) (ap (λ f. f .pins) is),
+      found-next _ _ _ _ _ at _ (f .find .ensures .0) (λ a. a .gates) _ _ (l .loop .inv .1) (ap (λ f. f .gates) is),
+      found-next _ _ _ _ _ at _ (f .find .ensures .0) (λ a. a .pins) _ _ (l .loop .inv .2) (ap (λ f. f .pins) is),
       omega (arith, few f .0),
       omega (arith, few f .1),
-      found-byte _ _ _ _ _ at _ (f .find .ensures) _ _ (l .loop .inv .5) (omega (arith, b .pre .0 .enough)) _ (c .before .before .byte-of .ensures),
+      found-byte _ _ _ _ _ at _ (f .find .ensures .0) _ _ (l .loop .inv .5) (omega (arith, b .pre .0 .enough)) _ (c .before .before .byte-of .ensures),
       search needs,
+      cells-next _ _ _ _ _ at _ _ (l .loop .inv .7) _ (f .find .ensures .1),
     )
 
 same-length : tie.Need-same-length Inv-loop μ-loop
@@ -101,7 +104,7 @@ same-length-2 c = kept (c .before)
 returns : tie.Need-returns Inv-loop μ-loop
 returns c =
     let e : c .before .loop .output ≡ c .before .before .before .before .before .before .before .args .outputs = search needs in
-    rw (← e) (c .before .loop .inv .1, c .before .loop .inv .2, c .before .loop .inv .5)
+    rw (← e) (c .before .loop .inv .1, (c .before .loop .inv .2, (c .before .loop .inv .5, c .before .loop .inv .7)))
 
 pub search-outputs-spec : {M : Type 1} → statement M
 search-outputs-spec =

@@ -2,7 +2,7 @@
 use native.Mathlib.Omega.{arith}
 use mathlib.Core.Path.{_∙_, ap}
 use Rattle.netlist.proofs.Accepted.{formed}
-use Rattle.changes.specs.Changes.{written}
+use Rattle.changes.specs.Written.{written}
 use Rattle.changes.proofs.Accepted.{listed}
 use Rattle.core.specs.Outputs.{byteFrom, sumFrom}
 use Rattle.simulate.proofs.Laws.{spreads}
@@ -43,7 +43,7 @@ mark-unknown-requires : tie.Need-mark-unknown-requires
 mark-unknown-requires c κs =
     let s = c .before .before .before .before .before .before .before .before .before .before in
     let a = s .args in
-    filled-room (a .netlist .now) (a .list .now) (s .pre .of .accepted) (a .change) _ (c .before .before .before .before .classify .ensures)
+    omega (arith, filled-room (a .netlist .now) (a .list .now) (s .pre .of .accepted) (a .change) _ (c .before .before .before .before .classify .ensures))
 
 slice-aggregate-search-outputs : tie.Need-slice-aggregate-search-outputs
 slice-aggregate-search-outputs c = search needs
@@ -78,7 +78,7 @@ returns c =
           ∙ ap (λ codes. touchedBy n codes (a .gates)) filled ∙ touched-is n l (s .pre .of .accepted) (a .change),
       c .before .before .before .search-outputs .ensures .0 ∙ ap (λ known. sumFrom (λ a. a .gates) n known (a .entries) (a .outputs)) marked
           ∙ visited-is n l (s .pre .of .accepted) (a .change),
-      c .before .before .before .search-outputs .ensures .2 ∙ ap (λ known. written (a .buffer .now) 0 (byteFrom n known (a .entries)) (a .outputs)) marked
+      c .before .before .before .search-outputs .ensures .1 .1 .0 ∙ ap (λ known. written (a .buffer .now) 0 (byteFrom n known (a .entries)) (a .outputs)) marked
           ∙ bytes-are n l (s .pre .of .accepted) (a .change) (a .buffer .now),
     )
 

@@ -7,7 +7,8 @@ use lib.Bits.{bitAnd}
 use lib.Count.{trailingZeros, trailing-le, under}
 use lib.Dec.{eqb}
 use borrow.Author.Tests.{eq-eqb, ne-eqb}
-use Rattle.kung.specs.Sets.{only, keep, has}
+use Rattle.kung.specs.Sets.{has}
+use Rattle.kung.specs.Members.{onlyCode, keep}
 use Rattle.kung.specs.Tables.{tab}
 use Rattle.kung.proofs.Listed.{agree}
 use borrow.Author.Needs.{needs}
@@ -15,9 +16,9 @@ use Rattle.kung.proofs.only_class.Statement.{statement}
 use Rattle.kung.proofs.only_class.Tie as tie
 
 -- a byte with one bit has none where one less has some
-by-bits : (m : ℕ) → m < 256 → only m ≡ cond (eqb m 0) 8 (cond (eqb (bitAnd m (m - 1)) 0) (trailingZeros 8 m) 8)
-unfolding only keep has tab trailingZeros
-by-bits m h = agree only (λ m. cond (eqb m 0) 8 (cond (eqb (bitAnd m (m - 1)) 0) (trailingZeros 8 m) 8)) 256 refl m h
+by-bits : (m : ℕ) → m < 256 → onlyCode m ≡ cond (eqb m 0) 8 (cond (eqb (bitAnd m (m - 1)) 0) (trailingZeros 8 m) 8)
+unfolding onlyCode keep has tab trailingZeros
+by-bits m h = agree onlyCode (λ m. cond (eqb m 0) 8 (cond (eqb (bitAnd m (m - 1)) 0) (trailingZeros 8 m) 8)) 256 refl m h
 
 returns : tie.Need-returns
 returns c =

@@ -2,7 +2,8 @@
 use mathlib.Core.Path.{_∙_, ap, sym}
 use Rattle.kung.specs.Class.{ofCode}
 use Rattle.kung.specs.Operation.{opAt}
-use Rattle.kung.specs.Sets.{possible, swapIf}
+use Rattle.kung.specs.Sets.{possible}
+use Rattle.kung.specs.Members.{swapIf}
 use Rattle.kung.proofs.SetLaws.{possible-left, possible-done}
 use borrow.Author.Needs.{needs}
 use Rattle.kung.proofs.possible_set.Statement.{statement}

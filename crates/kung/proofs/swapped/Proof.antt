@@ -4,7 +4,8 @@ use Prim.Native.Nat.{_*_, _/_, _%_}
 use mathlib.Core.Bool.{true}
 use native.Mathlib.Omega.{arith}
 use lib.Bits.{bitOr, bitAnd}
-use Rattle.kung.specs.Sets.{swapIf, setOf, has}
+use Rattle.kung.specs.Sets.{setOf, has}
+use Rattle.kung.specs.Members.{swapIf}
 use Rattle.kung.specs.Tables.{tab}
 use Rattle.kung.proofs.Listed.{agree}
 use Rattle.kung.proofs.Unions.{set-of-has}

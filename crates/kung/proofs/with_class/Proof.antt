@@ -5,7 +5,8 @@ use native.Mathlib.Omega.{arith}
 use lib.Bits.{bitOr}
 use lib.ListN.{getD}
 use Rattle.kung.specs.Class.{c0, classes, ofCode, same}
-use Rattle.kung.specs.Sets.{insert, has}
+use Rattle.kung.specs.Sets.{has}
+use Rattle.kung.specs.Members.{insert}
 use Rattle.kung.specs.Tables.{tab}
 use Rattle.kung.proofs.Listed.{agree}
 use Rattle.kung.proofs.Unions.{setOf-or, set-of-has, one-class}

@@ -6,7 +6,7 @@ use mathlib.Core.List.{List}
 use lib.ListN.{length, take, drop, replicate}
 use Rattle.netlist.specs.Netlist.{inputsOf}
 use Rattle.changes.specs.Changes.{widthOf, inputClassAt}
-use Rattle.visit.specs.Source.{inputsKnown}
+use Rattle.visit.specs.Lent.{inputsKnown}
 use Rattle.core.proofs.Entry.{known-is, known-length}
 use Rattle.report.specs.Appended.{Appended}
 use Rattle.listing.specs.Listing.{texts, changeLines}

@@ -50,7 +50,7 @@ line c =
     let e = f .before .before in
     let a = e .before .before .before .before .before .before .before .args in
     line-is (a .netlist .now) (a .known .now) (a .classes .now) (a .change) (a .output) (e .entry-at .result) (f .find .result) (c .is-clean .result)
-    (entry e) (f .find .ensures) (c .is-clean .ensures)
+    (entry e) (f .find .ensures .0) (c .is-clean .ensures)
 
 is-clean-requires : tie.Need-is-clean-requires
 is-clean-requires c κs = search needs

@@ -3,7 +3,7 @@ use mathlib.Core.Path.{_≡_, _∙_, sym}
 use mathlib.Core.Bool.{false}
 use borrow.Author.Needs.{needs}
 use Rattle.words.specs.Words.{outside}
-use Rattle.words.proofs.Laws.{outside-read}
+use Rattle.words.proofs.Laws.{outside-read, within}
 use Rattle.netlist.specs.Netlist.{inputsOf, gatesOf}
 use Rattle.netlist.proofs.Refusals.{counts-inputs, counts-gates, counts-outputs, counts-pass, body-within}
 use Rattle.netlist.proofs.check_counts.Statement.{statement}
@@ -52,7 +52,10 @@ returns-3 : tie.Need-returns-3
 returns-3 c = sym (counts-outputs _ _ (inputs-in (c .before .before .before .before .before .before)) (gates-in (c .before .before .before)) (outside-read 1 64 (c .before .before .word-at3 .ensures) (c .before .is-outside3 .ensures) (c .if3 .taken)))
 
 check-records-requires : tie.Need-check-records-requires
-check-records-requires c κs = search needs
+check-records-requires c κs =
+    let i = inputs-in (c .before .before .before .before .before .before) in
+    let g = gates-in (c .before .before .before) in
+    (within 1 256 _ i .1, within 0 2048 _ g .1)
 
 returns-4 : tie.Need-returns-4
 returns-4 c =

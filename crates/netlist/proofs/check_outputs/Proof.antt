@@ -4,8 +4,11 @@ use mathlib.Core.Path.{_≡_, _∙_, sym}
 use borrow.Author.Tests.{lt-ltb, le-ltb}
 use lib.Dec.{ltb}
 use lib.ListN.{length}
-use Rattle.netlist.specs.Netlist.{outputs, accepted, wordsBelow, refuse}
-use Rattle.netlist.proofs.Refusals.{stop, pass, accepted-read, outputs-cut, outputs-start, words-stop, words-more, words-end}
+use Rattle.words.specs.Refusal.{refuse}
+use Rattle.words.proofs.Refusal.{stop, pass}
+use Rattle.netlist.specs.declared.Checked.the-variants.{Refused}
+use Rattle.netlist.specs.Netlist.{outputs, accepted, wordsBelow}
+use Rattle.netlist.proofs.Refusals.{accepted-read, outputs-cut, outputs-start, words-stop, words-more, words-end}
 use borrow.Author.Needs.{needs}
 use Rattle.netlist.proofs.check_outputs.Statement.{statement}
 use Rattle.netlist.proofs.check_outputs.Tie as tie
@@ -13,7 +16,7 @@ use Rattle.netlist.proofs.check_outputs.Tie as tie
 abbrev Inv-loop : tie.InvT-loop
 Inv-loop s pins at inputs gates count end k₀ k =
     (k ≤ count)
-    × (outputs s (accepted s) ≡ wordsBelow (count - k) s (at + 2 * k) (inputs + gates) 9 (refuse (ltb (at + 2 * count) (length s)) 10 (at + 2 * count) (accepted s)))
+    × (outputs s (accepted s) ≡ wordsBelow (count - k) s (at + 2 * k) (inputs + gates) 9 (refuse Refused (ltb (at + 2 * count) (length s)) 10 (at + 2 * count) (accepted s)))
 
 abbrev μ-loop : tie.MeasureT-loop
 μ-loop s pins at inputs gates count end k₀ k = count - k
@@ -82,11 +85,11 @@ loop-again : tie.Need-loop-again Inv-loop μ-loop
 loop-again c = (search needs, c .before .before .before .loop .inv .1 ∙ words-more _ _ _ _ _ _ _ (c .before .before .loop-test .taken) (c .before .word-in .ensures) (c .if2 .left))
 
 returns-3 : tie.Need-returns-3 Inv-loop μ-loop
-returns-3 c = sym (c .before .before .loop .inv .1 ∙ words-end _ _ _ _ _ _ _ (c .before .loop-test .left) ∙ stop _ _ _ _ (lt-ltb _ _ (c .if3 .taken)))
+returns-3 c = sym (c .before .before .loop .inv .1 ∙ words-end _ _ _ _ _ _ _ (c .before .loop-test .left) ∙ stop _ _ _ _ _ (lt-ltb _ _ (c .if3 .taken)))
 
 returns-4 : tie.Need-returns-4 Inv-loop μ-loop
 returns-4 c =
-    let e = c .before .before .loop .inv .1 ∙ words-end _ _ _ _ _ _ _ (c .before .loop-test .left) ∙ pass _ _ _ _ (le-ltb _ _ (c .if3 .left)) in
+    let e = c .before .before .loop .inv .1 ∙ words-end _ _ _ _ _ _ _ (c .before .loop-test .left) ∙ pass _ _ _ _ _ (le-ltb _ _ (c .if3 .left)) in
     let read = c .before .before .before .before in
     let start = read .before .before .before .before in
     accepted-read _ (read .before .before .word-at .ensures) (read .before .word-at2 .ensures) (read .word-at3 .ensures) (start .pre .0) (start .pre .1) ∙ sym e

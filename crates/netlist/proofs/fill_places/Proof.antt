@@ -5,7 +5,8 @@ use mathlib.Core.Path.{_≡_, _∙_, refl, ap}
 use mathlib.Core.List.{_++_}
 use lib.ListN.{length, drop}
 use borrow.Author.Needs.{needs}
-use Rattle.netlist.specs.Netlist.{placeOf, placesOf}
+use Rattle.netlist.specs.Netlist.{placeOf}
+use Rattle.netlist.specs.Index.{placesOf}
 use Rattle.netlist.proofs.Laws.{place-mono, place-next, places-more, places-kept}
 use Rattle.netlist.proofs.fill_places.Statement.{statement}
 use Rattle.netlist.proofs.fill_places.Tie as tie

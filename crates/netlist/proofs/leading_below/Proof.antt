@@ -3,8 +3,8 @@ use Prim.Native.Nat.{_≤_}
 use native.Mathlib.Nat.{sub-zero, add-zero, zero-add}
 use mathlib.Core.Path.{_≡_, _∙_, refl}
 use borrow.Author.Needs.{needs}
-use Rattle.netlist.specs.Netlist.{leading}
-use Rattle.netlist.proofs.Plain.{first, first-here, first-later}
+use Rattle.netlist.specs.Reading.{leading}
+use Rattle.netlist.proofs.Leading.{first, first-here, first-later}
 use Rattle.netlist.proofs.leading_below.Statement.{statement}
 use Rattle.netlist.proofs.leading_below.Tie as tie
 
@@ -29,9 +29,6 @@ add-word-in c = search needs
 
 word-in-requires : tie.Need-word-in-requires Inv-loop μ-loop
 word-in-requires c κs = search needs
-
-cast-if1 : tie.Need-cast-if1 Inv-loop μ-loop
-cast-if1 c = search needs
 
 loop-less : tie.Need-loop-less Inv-loop μ-loop
 loop-less c = search needs
@@ -65,7 +62,6 @@ leading-below-spec =
     mul-word-in
     add-word-in
     word-in-requires
-    cast-if1
     loop-less
     loop-again
     loop-less-2

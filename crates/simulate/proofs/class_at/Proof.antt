@@ -6,7 +6,7 @@ use mathlib.Core.List.{map}
 use lib.ListN.{getD}
 use Rattle.kung.specs.Class.{code, ofCode}
 use Rattle.kung.specs.Rule.{kindOf, gateClass}
-use Rattle.kung.specs.Sets.{members}
+use Rattle.kung.specs.Members.{members}
 use Rattle.kung.proofs.SetLaws.{gate-collect}
 use Rattle.words.specs.Words.{wordsAt}
 use Rattle.netlist.specs.Netlist.{kindAt, countAt}

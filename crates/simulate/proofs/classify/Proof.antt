@@ -12,7 +12,7 @@ use Rattle.simulate.proofs.classify.Tie as tie
 
 fill-inputs-requires : tie.Need-fill-inputs-requires
 fill-inputs-requires c κs =
-    let r = c .before .before .before .before .pre .1 in (r .width-high, r .change-high, omega (arith, r .enough))
+    let r = c .before .before .before .before .pre .1 in (r .width-high, omega (arith, r .change-high), omega (arith, r .enough))
 
 pass-requires : tie.Need-pass-requires
 pass-requires c κs =
@@ -20,7 +20,7 @@ pass-requires c κs =
     let a = s .args in (
       s .pre .0,
       subst (λ b. Passable (a .netlist .now) b (a .inputs) (a .gates)) (sym (c .before .before .before .fill-inputs .ensures))
-          (filled-passable (a .netlist .now) (a .list .now) (a .buffer .now) (a .inputs) (a .gates) (a .width) (a .change) (s .pre .1 .card) (s .pre .1 .enough)
+          (filled-passable (a .netlist .now) _ (a .buffer .now) (a .inputs) (a .gates) (a .width) _ (s .pre .1 .card) (s .pre .1 .enough)
           (s .pre .1 .width-is)),
     )
 

@@ -20,13 +20,16 @@ Inv-loop table netlist inputs gates buffer₀ at₀ gate₀ buffer at gate =
 abbrev μ-loop : tie.MeasureT-loop
 μ-loop table netlist inputs gates buffer₀ at₀ gate₀ buffer at gate = gates - gate
 
--- in a turn the gate's record can be read
+-- in a turn there is a gate, and its record can be read
+below : (c : tie.In-loop Inv-loop μ-loop) → c .before .loop .gate < c .before .before .before .before .args .gates
+below c = omega (arith, c .loop-test .taken, c .before .loop .inv .0)
+
 reads : (c : tie.In-loop Inv-loop μ-loop)
     → Readable (c .before .before .before .before .args .netlist .now) (c .before .loop .at) (length (c .before .loop .buffer))
 reads c =
     let s = c .before .before .before .before in
     let l = c .before .loop in
-    pass-reads (s .args .netlist .now) (s .args .buffer .now) (s .args .inputs) (s .args .gates) (s .pre .1) (l .gate) (c .loop-test .taken) (l .at)
+    pass-reads (s .args .netlist .now) (s .args .buffer .now) (s .args .inputs) (s .args .gates) (s .pre .1) (l .gate) (below c) (l .at)
     (l .inv .1) (l .buffer) (l .inv .2)
 
 loop-holds : tie.Need-loop-holds Inv-loop μ-loop
@@ -45,7 +48,7 @@ slice-write-buffer : tie.Need-slice-write-buffer Inv-loop μ-loop
 slice-write-buffer c =
     let i = c .before .before in
     let s = i .before .before .before .before in
-    pass-room (s .args .netlist .now) (s .args .buffer .now) (s .args .inputs) (s .args .gates) (s .pre .1) (i .before .loop .gate) (i .loop-test .taken)
+    pass-room (s .args .netlist .now) (s .args .buffer .now) (s .args .inputs) (s .args .gates) (s .pre .1) (i .before .loop .gate) (below i)
     (i .before .loop .buffer) (i .before .loop .inv .2)
 
 add-second : tie.Need-add-second Inv-loop μ-loop
@@ -79,7 +82,7 @@ loop-again c =
     let l = i .before .loop in (
       search needs,
       place-next (s .args .netlist .now) (l .gate) (l .at) (l .inv .1),
-      pass-more (s .args .netlist .now) (s .args .buffer .now) (s .args .inputs) (s .args .gates) (s .pre .1) (l .gate) (i .loop-test .taken) (l .buffer)
+      pass-more (s .args .netlist .now) (s .args .buffer .now) (s .args .inputs) (s .args .gates) (s .pre .1) (l .gate) (below i) (l .buffer)
           (l .inv .2) (c .before .class-at .result) (c .before .class-at .ensures ∙ ap (λ p. gateCode (s .args .netlist .now) p (l .buffer)) (l .inv .1)),
     )
 

@@ -5,12 +5,12 @@ use mathlib.Core.Path.{_≡_, _∙_, ap, ap₂}
 use mathlib.Core.List.{map}
 use lib.ListN.{getD, length}
 use Rattle.kung.specs.Class.{Class, ofCode}
-use Rattle.kung.specs.Sets.{insert, collect}
+use Rattle.kung.specs.Members.{insert, collect}
 use Rattle.words.specs.Words.{wordsAt}
 use Rattle.simulate.proofs.Laws.{word-each, collect-back}
 use Prim.Native.Nat.{_+_, _-_, _*_, _≤_}
 use mathlib.Core.Path.{_≡_}
-use Rattle.kung.specs.Sets.{collect}
+use Rattle.kung.specs.Members.{collect}
 use borrow.Author.Needs.{needs}
 use Rattle.simulate.proofs.pin_set.Statement.{statement}
 use Rattle.simulate.proofs.pin_set.Tie as tie

@@ -8,7 +8,8 @@ use lib.ListN.{getD}
 use Rattle.kung.specs.Class.{Class, c0, code, classes, ofCode, same}
 use Rattle.kung.specs.Rule.{each, some, andAll, orAll, Kind, kindOf, gateClass}
 use Rattle.kung.specs.Operation.{opOf, inverts, invertIf, join, joinAll}
-use Rattle.kung.specs.Sets.{has, keep, members}
+use Rattle.kung.specs.Sets.{has}
+use Rattle.kung.specs.Members.{keep, members}
 use Rattle.kung.specs.Tables.{gateRule, gateTable}
 use Rattle.kung.proofs.Finite.{ofCode-code}
 use Rattle.kung.proofs.Laws.{invert-invert, gateClass-op}

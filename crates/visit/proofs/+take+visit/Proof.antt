@@ -1,5 +1,7 @@
--- The proof of the cycle of calls {take, visit}. A visit takes pins of its own gate, and a taken pin visits a gate below: the measure is the signal
--- number, with the pins left as second part. The invariant of the visit's loop: what is left of the visit is the whole visit. Assumes nothing.
+-- The proof of the cycle of calls {take, visit}. The measure is document 01's: "the signal number falls, with pins left as second part". A visit has
+-- its gate's pins from `first` on left, and taking pin `next` leaves those after it, which are fewer since `first ≤ next`. The gate behind that pin has
+-- a lower signal number and at most eight pins left, so nine times the number outweighs them.
+-- The invariant of the visit's loop: what is left of the visit is the whole visit. Assumes nothing.
 use Prim.Native.Nat.{ℕ, _+_, _*_, _-_, _≤_, _<_}
 use native.Mathlib.Omega.{arith}
 use mathlib.Core.Path.{_≡_, refl, sym, _∙_, ap, ap₂, subst}
@@ -18,8 +20,10 @@ use Rattle.netlist.specs.Netlist.{kindAt, countAt, pinAt}
 use Rattle.search.specs.Search.{waits, checks}
 use Rattle.visit.specs.declared.Driver.the-variants.{Told, Behind}
 use Rattle.visit.specs.Source.{placeFrom, kindFrom, countFrom, pinsFrom}
-use Rattle.visit.specs.Found.{waitingOf, checkOf, carriedFrom, Takes, Visits}
-use Rattle.visit.proofs.Sources.{GateOf, gate-of, pin-is, pin-below, searched-there}
+use Rattle.visit.specs.Codes.{waitingOf, checkOf, carriedFrom}
+use Rattle.visit.specs.Visits.{Visits, Means, Takes}
+use Rattle.visit.proofs.Codes.{operation-is, inverts-is}
+use Rattle.visit.proofs.Sources.{GateOf, gate-of, pins-few, pin-is, pin-below, searched-there}
 use Rattle.visit.proofs.Visits.{Rest, takes-told, takes-behind, behind-searched, rest-first, rest-ends, rest-next, rest-stopped, goes-left, takes-small}
 use Rattle.visit.proofs.take.Reads as take
 use Rattle.visit.proofs.take.Kinds as take-kinds
@@ -36,15 +40,22 @@ use Rattle.visit.proofs.waiter_of.Reads as waiter-of-reads
 use Rattle.visit.proofs.wanted_behind.Reads as wanted-behind-reads
 use Rattle.netlist.proofs.count_at.Reads as count-at-reads
 use Rattle.netlist.proofs.kind_at.Reads as kind-at-reads
+use Rattle.netlist.proofs.meaning_of.Reads as meaning-of-reads
 use Rattle.visit.proofs.pin_in.Reads as pin-in-reads
 use Rattle.visit.proofs.+take+visit.{statement}
 use Rattle.visit.proofs.+take+visit.Tie.{close}
 
 abbrev μ-take : Measures 6 take-kinds.ps ℕ
-μ-take κs a = let s = a .1 .1 .1 .1 .1 .1 .1 .0 in 32 * s + (countFrom (a .1 .1 .0 .now) s - a .1 .1 .1 .1 .1 .1 .1 .1 .1 .0)
+μ-take κs a =
+    let s = a .1 .1 .1 .1 .1 .1 .1 .0 in
+    let next = a .1 .1 .1 .1 .1 .1 .1 .1 .1 .1 .1 .0 in
+    9 * s + (countFrom (a .1 .1 .0 .now) s - (next + 1))
 
 abbrev μ-visit : Measures 6 visit-kinds.ps ℕ
-μ-visit κs a = 32 * a .1 .1 .1 .1 .1 .1 .1 .0 + 31
+μ-visit κs a =
+    let s = a .1 .1 .1 .1 .1 .1 .1 .0 in
+    let first = a .1 .1 .1 .1 .1 .1 .1 .1 .1 .0 in
+    9 * s + (countFrom (a .1 .1 .0 .now) s - first)
 
 abbrev take-at : ℕ → In 6 take-kinds.ps
 take-at t = and 6 take-kinds.ps (is 6 take-kinds.ps μ-take t) take.Pre
@@ -70,8 +81,6 @@ take-calls t = (
   driver-at-reads.Learnt,
   wanted-behind-reads.Asked,
   wanted-behind-reads.Learnt,
-  kind-at-reads.Asked,
-  kind-at-reads.Learnt,
   waiter-of-reads.Asked,
   waiter-of-reads.Learnt,
   visit-below t,
@@ -84,6 +93,8 @@ visit-calls t = (
   place-of-reads.Learnt,
   kind-at-reads.Asked,
   kind-at-reads.Learnt,
+  meaning-of-reads.Asked,
+  meaning-of-reads.Learnt,
   count-at-reads.Asked,
   count-at-reads.Learnt,
   keep-reads.Asked,
@@ -103,7 +114,7 @@ take-gate t c =
     let a = c .args in gate-of (a .netlist .now) (a .places .now) (a .known .now) (a .inputs) (a .s) (c .pre .1 .0 .indexed) (c .pre .1 .1 .0)
 
 take-few : (t : ℕ) (c : take-lts.Start (take-calls t) (take-at t) take.Post) → c .args .next < 8
-take-few t c = omega (arith, c .pre .1 .0 .few-pins _ (take-gate t c .gate), c .pre .1 .1)
+take-few t c = omega (arith, pins-few (c .pre .1 .0) (c .args .s) (c .pre .1 .1 .0), c .pre .1 .1)
 
 take-place-of-requires : (t : ℕ) → take-lts.Need-place-of-requires (take-calls t) (take-at t) take.Post
 take-place-of-requires t c κs = let g = take-gate t (c .before .before .before .before) in (g .above, g .there)
@@ -192,19 +203,17 @@ module _ (t : ℕ) (c : take-lts.After-driver-at (take-calls t) (take-at t) take
 take-wanted-behind-requires : (t : ℕ) → take-lts.Need-wanted-behind-requires (take-calls t) (take-at t) take.Post
 take-wanted-behind-requires t c κs = let s = begun t (c .before .before .before .before) in (s .pre .1 .0 .wanteds-are, omega (arith, take-few t s))
 
-take-kind-at-requires : (t : ℕ) → take-lts.Need-kind-at-requires (take-calls t) (take-at t) take.Post
-take-kind-at-requires t c κs = search needs
-
 take-waiter-of-requires : (t : ℕ) → take-lts.Need-waiter-of-requires (take-calls t) (take-at t) take.Post
 take-waiter-of-requires t c κs = search needs
 
 take-visit-requires : (t : ℕ) → take-lts.Need-visit-requires (take-calls t) (take-at t) take.Post
 take-visit-requires t c κs =
-    let v = c .before .before .before .before in
+    let v = c .before .before .before in
     let d = v .before .before .before in
     let s = begun t d in
     let less = take-lower t (pin t d) in
     let searched = take-searched t d _ _ (v .before .driver2 .given .1) in
+    let few = pins-few (s .pre .1 .0) (pin t d .pin-in .result) (searched .0) in
     (omega (arith, s .pre .0), (s .pre .1 .0, (searched .0, omega (arith, s .pre .1 .1, d .before .before .before .before .keep .kept .0), searched .1)))
 
 take-same-length : (t : ℕ) → take-lts.Need-same-length (take-calls t) (take-at t) take.Post
@@ -219,24 +228,24 @@ take-same-length-2 t c = search needs
 take-returns-2 : (t : ℕ) → take-lts.Need-returns-2 (take-calls t) (take-at t) take.Post
 take-returns-2 t c =
     let w = c .before .before .before in
-    let d = w .before .before .before .before .before .before .before in
+    let d = w .before .before .before .before .before .before in
     let a = begun t d .args in
-    let place = take-place t (pin t d .before) in
+    let means = begun t d .pre .1 .1 .3 in
     takes-behind (a .netlist .now) (a .known .now) (a .s) (a .p) (a .next) (a .wanted) (a .cells .now) (pin t d .pin-in .result) (cells t d)
-    (take-on t (pin t d)) (d .before .before .before .before .keep .ensures) _ _ (sym (w .before .before .before .before .before .driver2 .given .1) ∙ d .driver-at .ensures)
+    (take-on t (pin t d)) (d .before .before .before .before .keep .ensures) _ _ (sym (w .before .before .before .before .driver2 .given .1) ∙ d .driver-at .ensures)
     (take-lower t (pin t d)) _ _
-    (w .before .before .wanted-behind .ensures
-    ∙ ap (λ q. wantedFor (opOf (kindOf (kindAt (a .netlist .now) q))) (inverts (kindOf (kindAt (a .netlist .now) q))) (ofCode (a .p))
-    (ltb (a .next + 1) (countAt (a .netlist .now) q)) (a .wanted)) place)
-    (w .waiter-of .ensures ∙ ap (λ k. waits (opOf (kindOf k)) (ofCode (a .p))) (w .before .kind-at .ensures ∙ ap (kindAt (a .netlist .now)) place)) _ _
-    (c .before .before .visit .ensures)
+    (w .before .wanted-behind .ensures
+    ∙ (λ i.
+    wantedFor (means .operation-is i) (means .inverts-is i) (ofCode (a .p)) (ltb (a .next + 1) (countAt (a .netlist .now) (take-place t (pin t d .before) i)))
+    (a .wanted)))
+    (w .waiter-of .ensures ∙ ap (λ o. waits o (ofCode (a .p))) (means .operation-is)) _ _ (c .before .before .visit .ensures)
 
 abbrev visit-Inv-loop : visit-lts.InvT-loop
-visit-Inv-loop images wanteds netlist places known cells₀ inputs s from first wanted waiter place kind count p₀ next₀ cells p next =
-    (s < length cells) × (length cells ≡ length cells₀) × Rest netlist known s wanted waiter from first cells₀ p next cells
+visit-Inv-loop images wanteds netlist places known cells₀ inputs s from first wanted waiter place operation inverted count p₀ next₀ cells p next =
+    (s < length cells) × (length cells ≡ length cells₀) × (first ≤ next) × Rest netlist known s wanted waiter from first cells₀ p next cells
 
 abbrev visit-μ-loop : visit-lts.MeasureT-loop
-visit-μ-loop images wanteds netlist places known cells₀ inputs s from first wanted waiter place kind count p₀ next₀ cells p next =
+visit-μ-loop images wanteds netlist places known cells₀ inputs s from first wanted waiter place operation inverted count p₀ next₀ cells p next =
     count - next
 
 -- the gate that is visited
@@ -251,6 +260,9 @@ visit-place-of-requires t c κs = let g = visit-gate t (c .before .before .befor
 visit-kind-at-requires : (t : ℕ) → visit-lts.Need-kind-at-requires (visit-calls t) (visit-at t) visit.Post visit-Inv-loop visit-μ-loop
 visit-kind-at-requires t c κs = search needs
 
+visit-meaning-of-requires : (t : ℕ) → visit-lts.Need-meaning-of-requires (visit-calls t) (visit-at t) visit.Post visit-Inv-loop visit-μ-loop
+visit-meaning-of-requires t c κs = search needs
+
 visit-count-at-requires : (t : ℕ) → visit-lts.Need-count-at-requires (visit-calls t) (visit-at t) visit.Post visit-Inv-loop visit-μ-loop
 visit-count-at-requires t c κs = search needs
 
@@ -260,9 +272,9 @@ visit-keep-requires t c κs = search needs
 visit-loop-holds : (t : ℕ) → visit-lts.Need-loop-holds (visit-calls t) (visit-at t) visit.Post visit-Inv-loop visit-μ-loop
 visit-loop-holds t c =
     let k = c .before .before in
-    let s = k .before .before .before .before .before .before .before .before .before in
+    let s = k .before .before .before .before .before .before .before .before .before .before in
     let a = s .args in
-    (omega (arith, k .keep .kept .0, s .pre .1 .1 .1), refl, rest-first (a .netlist .now) (a .known .now) (a .s) (a .wanted) (a .waiter) (a .from) (a .first) (k .keep .last .0))
+    (omega (arith, k .keep .kept .0, s .pre .1 .1 .1), refl, omega arith, rest-first (a .netlist .now) (a .known .now) (a .s) (a .wanted) (a .waiter) (a .from) (a .first) (k .keep .last .0))
 
 -- in the loop, after the checks
 module _ (t : ℕ) (c : visit-lts.After-check-gate (visit-calls t) (visit-at t) visit.Post visit-Inv-loop visit-μ-loop) where
@@ -272,17 +284,27 @@ module _ (t : ℕ) (c : visit-lts.After-check-gate (visit-calls t) (visit-at t) 
   abbrev counted : visit-lts.After-count-at (visit-calls t) (visit-at t) visit.Post visit-Inv-loop visit-μ-loop
   counted = kept-at .before .before
 
+  abbrev read : visit-lts.After-kind-at (visit-calls t) (visit-at t) visit.Post visit-Inv-loop visit-μ-loop
+  read = counted .before .before
+
   abbrev entered : visit-lts.Start (visit-calls t) (visit-at t) visit.Post visit-Inv-loop visit-μ-loop
-  entered = counted .before .before .before .before .before .before .before
+  entered = read .before .before .before .before .before .before
 
-  place-is : counted .before .before .place-of .result ≡ placeFrom (entered .args .netlist .now) (entered .args .s)
-  place-is = counted .before .before .place-of .ensures ∙ visit-gate t entered .place
+  place-is : read .before .place-of .result ≡ placeFrom (entered .args .netlist .now) (entered .args .s)
+  place-is = read .before .place-of .ensures ∙ visit-gate t entered .place
 
-  kind-is : counted .before .kind-at .result ≡ kindAt (entered .args .netlist .now) (placeFrom (entered .args .netlist .now) (entered .args .s))
-  kind-is = counted .before .kind-at .ensures ∙ ap (kindAt (entered .args .netlist .now)) place-is
+  kind-is : read .kind-at .result ≡ kindAt (entered .args .netlist .now) (placeFrom (entered .args .netlist .now) (entered .args .s))
+  kind-is = read .kind-at .ensures ∙ ap (kindAt (entered .args .netlist .now)) place-is
 
   count-is : counted .count-at .result ≡ countFrom (entered .args .netlist .now) (entered .args .s)
   count-is = counted .count-at .ensures ∙ ap (countAt (entered .args .netlist .now)) place-is
+
+  means : Means (entered .args .netlist .now) (entered .args .s) (counted .before .meaning-of .result .operation) (counted .before .meaning-of .result .inverts)
+  means =
+      record {
+        operation-is = operation-is (read .kind-at .result) (counted .before .meaning-of .ensures) ∙ ap (λ k. opOf (kindOf k)) kind-is;
+        inverts-is = inverts-is (read .kind-at .result) (counted .before .meaning-of .ensures) ∙ ap (λ k. inverts (kindOf k)) kind-is;
+      }
 
   checked : c .check-gate .result
       ≡ checkOf
@@ -292,10 +314,10 @@ module _ (t : ℕ) (c : visit-lts.After-check-gate (visit-calls t) (visit-at t) 
       (entered .args .wanted) (waitingOf (entered .args .waiter)))
   checked =
       c .check-gate .ensures
-      ∙ ap₂ (λ k n.
+      ∙ (λ i.
       checkOf
-      (checks (possible (opOf (kindOf k)) (inverts (kindOf k)) (ofCode (c .before .loop .p)) (ltb (c .before .loop .next) n)) (entered .args .wanted)
-      (waitingOf (entered .args .waiter)))) kind-is count-is
+      (checks (possible (means .operation-is i) (means .inverts-is i) (ofCode (c .before .loop .p)) (ltb (c .before .loop .next) (count-is i)))
+      (entered .args .wanted) (waitingOf (entered .args .waiter))))
 
   -- a pin is left where the checks go on
   pin-left : 17 ≤ c .check-gate .result → c .before .loop .next < countFrom (entered .args .netlist .now) (entered .args .s)
@@ -306,7 +328,7 @@ module _ (t : ℕ) (c : visit-lts.After-check-gate (visit-calls t) (visit-at t) 
       (waitingOf (entered .args .waiter)) (rw checked at e))
 
   few : countFrom (entered .args .netlist .now) (entered .args .s) ≤ 8
-  few = entered .pre .1 .0 .few-pins _ (visit-gate t entered .gate)
+  few = pins-few (entered .pre .1 .0) (entered .args .s) (entered .pre .1 .1 .0)
 
 visit-check-gate-requires : (t : ℕ) → visit-lts.Need-check-gate-requires (visit-calls t) (visit-at t) visit.Post visit-Inv-loop visit-μ-loop
 visit-check-gate-requires t c κs = search needs
@@ -321,14 +343,14 @@ visit-returns t c =
     let a = s .args in
     let l = g .before .loop in
     rest-ends (a .netlist .now) (a .known .now) (a .s) (a .wanted) (a .waiter) (a .from) (a .first) (kept-at t g .keep .last .0) (l .p) (l .next) (l .cells)
-    (l .inv .2) (a .cells .now) (s .pre .1 .1 .0) (kept-at t g .keep .ensures) (g .check-gate .result) (checked t g) (c .if1 .taken)
+    (l .inv .3) (a .cells .now) (s .pre .1 .1 .0) (kept-at t g .keep .ensures) (g .check-gate .result) (checked t g) (c .if1 .taken)
 
 visit-take-requires : (t : ℕ) → visit-lts.Need-take-requires (visit-calls t) (visit-at t) visit.Post visit-Inv-loop visit-μ-loop
 visit-take-requires t c κs =
     let g = c .before .before in
     let s = entered t g in
     let less = pin-left t g (c .before .if1 .left) in
-    (omega (arith, s .pre .0, few t g), (s .pre .1 .0, (s .pre .1 .1 .0, g .before .loop .inv .0, less)))
+    (omega (arith, s .pre .0, g .before .loop .inv .2), (s .pre .1 .0, (s .pre .1 .1 .0, g .before .loop .inv .0, less, means t g)))
 
 -- after a pin was taken
 module _ (t : ℕ) (c : visit-lts.After-take (visit-calls t) (visit-at t) visit.Post visit-Inv-loop visit-μ-loop) where
@@ -349,7 +371,7 @@ visit-returns-2 t c =
     let a = s .args in
     let l = g .before .loop in
     rest-stopped (a .netlist .now) (a .known .now) (a .s) (a .wanted) (a .waiter) (a .from) (a .first) (kept-at t g .keep .last .0) (l .p) (l .next) (l .cells)
-    (l .inv .2) (rw (checked t g) at (k .before .before .if1 .left)) (left-on t k) (k .take .result) (k .take .last .1 .1 .1 .1 .1 .0) (k .take .ensures)
+    (l .inv .3) (rw (checked t g) at (k .before .before .if1 .left)) (left-on t k) (k .take .result) (k .take .last .1 .1 .1 .1 .1 .0) (k .take .ensures)
     (c .if2 .taken) (a .cells .now) (s .pre .1 .1 .0) (kept-at t g .keep .ensures)
 
 ended-small : (t : ℕ) (c : visit-lts.Else2 (visit-calls t) (visit-at t) visit.Post visit-Inv-loop visit-μ-loop) → c .before .before .before .take .result < 16
@@ -395,12 +417,13 @@ visit-loop-again t c =
     let same : length (e .keep2 .last .0) ≡ length (l .cells) = e .keep2 .kept .0 ∙ k .take .kept .1 .1 .1 .1 .1 .0 in (
       omega (arith, same, l .inv .0),
       same ∙ l .inv .1,
+      omega (arith, l .inv .2),
       subst (Rest (a .netlist .now) (a .known .now) (a .s) (a .wanted) (a .waiter) (a .from) (a .first) (kept-at t g .keep .last .0) (y .carry .result) (l .next + 1))
           (sym (e .keep2 .ensures))
           (rest-next (a .netlist .now) (a .known .now) (a .s) (a .wanted) (a .waiter) (a .from) (a .first) (kept-at t g .keep .last .0) (l .p) (l .next) (l .cells)
-          (l .inv .2) (rw (checked t g) at (k .before .before .if1 .left)) (left-on t k) (k .take .result) (k .take .last .1 .1 .1 .1 .1 .0) (k .take .ensures)
+          (l .inv .3) (rw (checked t g) at (k .before .before .if1 .left)) (left-on t k) (k .take .result) (k .take .last .1 .1 .1 .1 .1 .0) (k .take .ensures)
           (ended-small t (y .before)) (y .carry .result)
-          (y .carry .ensures ∙ ap (λ d. code (carriedFrom (k .take .result) (opOf (kindOf d)) (ofCode (l .p)))) (kind-is t g))),
+          (y .carry .ensures ∙ ap (λ o. code (carriedFrom (k .take .result) o (ofCode (l .p)))) (means t g .operation-is))),
     )
 
 pub +take+visit-spec : {M : Type 1} → statement M
@@ -415,7 +438,6 @@ pub +take+visit-spec : {M : Type 1} → statement M
     (take-enum-known-driver t)
     (take-enum-known-driver-2 t)
     (take-wanted-behind-requires t)
-    (take-kind-at-requires t)
     (take-waiter-of-requires t)
     (take-visit-requires t)
     (take-same-length t)
@@ -429,6 +451,7 @@ pub +take+visit-spec : {M : Type 1} → statement M
     visit-μ-loop
     (visit-place-of-requires t)
     (visit-kind-at-requires t)
+    (visit-meaning-of-requires t)
     (visit-count-at-requires t)
     (visit-keep-requires t)
     (visit-loop-holds t)

@@ -1,38 +1,28 @@
--- `core::check_gate` meets its contract. Assumes nothing.
+-- `visit::check_gate` meets its contract. Assumes nothing.
 use mathlib.Core.Path.{_≡_, _∙_, ap}
 use Prim.Native.Nat.{_+_}
 use native.Mathlib.Omega.{arith}
 use borrow.Author.Needs.{needs}
 use Rattle.kung.specs.Class.{ofCode}
-use Rattle.kung.specs.Rule.{kindOf}
-use Rattle.kung.specs.Operation.{opOf, inverts}
+use Rattle.kung.specs.Operation.{opAt}
 use Rattle.kung.specs.Sets.{possible}
 use Rattle.search.specs.Search.{checks, only}
-use Rattle.visit.specs.Found.{waitingOf, codeOr, checkOf}
-use Rattle.visit.proofs.Codes.{only-code, possible-kind}
+use Rattle.visit.specs.Codes.{waitingOf, codeOr, checkOf}
+use Rattle.visit.proofs.Codes.{only-code}
 use Rattle.visit.proofs.Checks.{check-a, check-b, check-c, check-on}
 use Rattle.visit.proofs.check_gate.Statement.{statement}
 use Rattle.visit.proofs.check_gate.Tie as tie
-
-operation-of-requires : tie.Need-operation-of-requires
-operation-of-requires c κs = search needs
-
-is-inverting-requires : tie.Need-is-inverting-requires
-is-inverting-requires c κs = search needs
 
 possible-set-requires : tie.Need-possible-set-requires
 possible-set-requires c κs = search needs
 
 -- the checks of the set that the code has are those of the gate's possible set
-same-checks : (c : tie.After-possible-set) → let a = c .before .before .before .args in
+same-checks : (c : tie.After-possible-set) → let a = c .before .args in
     checkOf (checks (c .possible-set .result) (a .wanted) (waitingOf (a .waiter)))
-    ≡ checkOf (checks (possible (opOf (kindOf (a .kind))) (inverts (kindOf (a .kind))) (ofCode (a .p)) (a .left)) (a .wanted) (waitingOf (a .waiter)))
+    ≡ checkOf (checks (possible (opAt (a .operation)) (a .inverted) (ofCode (a .p)) (a .left)) (a .wanted) (waitingOf (a .waiter)))
 same-checks c =
-    let a = c .before .before .before .args in
-    ap (λ m. checkOf (checks m (a .wanted) (waitingOf (a .waiter))))
-    (c .possible-set .ensures
-    ∙ possible-kind (a .kind) (c .before .before .operation-of .result) (c .before .is-inverting .result) (ofCode (a .p)) (a .left)
-    (c .before .before .operation-of .ensures) (c .before .is-inverting .ensures))
+    let a = c .before .args in
+    ap (λ m. checkOf (checks m (a .wanted) (waitingOf (a .waiter)))) (c .possible-set .ensures)
 
 only-class-requires : tie.Need-only-class-requires
 only-class-requires c κs = search needs
@@ -43,14 +33,14 @@ class-is c = c .only-class .ensures ∙ only-code (c .before .possible-set .resu
 returns : tie.Need-returns
 returns c =
     let b = c .before .before in
-    let a = b .before .before .before .args in
+    let a = b .before .args in
     check-a (b .possible-set .result) (a .wanted) (waitingOf (a .waiter)) (omega arith) (c .if1 .taken) ∙ same-checks b
 
 returns-2 : tie.Need-returns-2
 returns-2 c =
     let k = c .before .before in
     let b = k .before in
-    let a = b .before .before .before .args in
+    let a = b .before .args in
     class-is k
     ∙ check-b (b .possible-set .result) (a .wanted) (waitingOf (a .waiter)) (omega arith) (c .before .if1 .left) (omega (arith, class-is k))
     ∙ same-checks b
@@ -66,7 +56,7 @@ returns-3 c =
     let e = c .before .before .before in
     let k = e .before in
     let b = k .before in
-    let a = b .before .before .before .args in
+    let a = b .before .args in
     ap (8 +_) (c .before .same-result-of .ensures)
     ∙ check-c (b .possible-set .result) (a .wanted) (waitingOf (a .waiter)) (omega arith) (e .if1 .left) (omega (arith, class-is k)) (omega arith)
     ∙ same-checks b
@@ -76,7 +66,7 @@ returns-4 c =
     let e = c .before .before .before in
     let k = e .before in
     let b = k .before in
-    let a = b .before .before .before .args in
+    let a = b .before .args in
     check-on (b .possible-set .result) (a .wanted) (waitingOf (a .waiter)) (omega arith) (e .if1 .left) (omega (arith, class-is k)) (omega arith)
     ∙ same-checks b
 
@@ -84,8 +74,6 @@ pub check-gate-spec : {M : Type 1} → statement M
 check-gate-spec =
     tie.close
     (tie.spec
-    operation-of-requires
-    is-inverting-requires
     possible-set-requires
     only-class-requires
     returns

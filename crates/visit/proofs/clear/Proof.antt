@@ -1,4 +1,4 @@
--- `core::clear` meets its contract. The loop's invariant: the cells passed are new, and the others are as they came. Assumes nothing.
+-- `visit::clear` meets its contract. The loop's invariant: the cells passed are new, and the others are as they came. Assumes nothing.
 use Prim.Native.Nat.{_-_, _≤_}
 use native.Mathlib.Omega.{arith}
 use mathlib.Core.Path.{_≡_, refl, _∙_, ap}

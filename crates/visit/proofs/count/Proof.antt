@@ -1,4 +1,4 @@
--- `core::count` meets its contract. The loop's invariant: the counts, with the totals of the cells to come, are the totals. Assumes nothing.
+-- `visit::count` meets its contract. The loop's invariant: the counts, with the totals of the cells to come, are the totals. Assumes nothing.
 use Prim.Native.Nat.{_+_, _*_, _-_, _≤_, _<_}
 use native.Mathlib.Omega.{arith}
 use mathlib.Core.Path.{_≡_}

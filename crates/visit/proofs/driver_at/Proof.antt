@@ -1,12 +1,11 @@
--- `core::driver_at` meets its contract. Assumes nothing.
+-- `visit::driver_at` meets its contract. Assumes nothing.
 use mathlib.Core.Path.{_∙_, ap}
 use native.Mathlib.Omega.{arith}
 use borrow.Author.Needs.{needs}
 use lib.ListN.{getD}
 use Rattle.search.specs.Search.{cellOf, cellAt, driverOf}
 use Rattle.visit.specs.declared.Driver.the-variants.{Told}
-use Rattle.visit.specs.Source.{gateAt}
-use Rattle.visit.specs.Found.{driverCode}
+use Rattle.visit.specs.Codes.{gateAt, driverCode}
 use Rattle.visit.proofs.Codes.{code-ofCode}
 use Rattle.visit.proofs.Sources.{source-given, source-gate, gate-of}
 use Rattle.visit.proofs.driver_at.Statement.{statement}

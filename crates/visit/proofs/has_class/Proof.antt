@@ -1,4 +1,4 @@
--- `core::has_class` meets its contract. Assumes nothing.
+-- `visit::has_class` meets its contract. Assumes nothing.
 use Prim.Native.Nat.{_%_}
 use native.Mathlib.Omega.{arith}
 use mathlib.Core.Path.{_≡_}

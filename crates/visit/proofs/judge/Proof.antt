@@ -1,4 +1,4 @@
--- `core::judge` meets its contract. Assumes nothing.
+-- `visit::judge` meets its contract. Assumes nothing.
 use native.Mathlib.Omega.{arith}
 use mathlib.Core.Path.{sym, _∙_, ap}
 use borrow.Author.Needs.{needs}

@@ -1,4 +1,4 @@
--- `core::keep` meets its contract. Assumes nothing.
+-- `visit::keep` meets its contract. Assumes nothing.
 use borrow.Author.Needs.{needs}
 use Rattle.search.specs.Search.{put}
 use Rattle.visit.proofs.Codes.{code-ofCode}

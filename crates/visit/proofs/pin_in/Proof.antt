@@ -1,4 +1,4 @@
--- `core::pin_in` meets its contract. Assumes nothing.
+-- `visit::pin_in` meets its contract. Assumes nothing.
 use native.Mathlib.Omega.{arith}
 use borrow.Author.Needs.{needs}
 use Rattle.visit.proofs.pin_in.Statement.{statement}

@@ -1,10 +1,10 @@
--- `core::same_result_of` meets its contract. Assumes nothing.
+-- `visit::same_result_of` meets its contract. Assumes nothing.
 use mathlib.Core.Path.{_∙_, ap}
 use native.Mathlib.Omega.{arith}
 use borrow.Author.Needs.{needs}
 use borrow.Author.Tests.{lt-ltb, le-ltb}
 use Rattle.search.specs.Search.{sameResult, only}
-use Rattle.visit.specs.Found.{waitingOf, codeOr}
+use Rattle.visit.specs.Codes.{waitingOf, codeOr}
 use Rattle.visit.proofs.Codes.{only-code}
 use Rattle.visit.proofs.same_result_of.Statement.{statement}
 use Rattle.visit.proofs.same_result_of.Tie as tie

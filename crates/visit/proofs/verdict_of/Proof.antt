@@ -1,4 +1,4 @@
--- `core::verdict_of` meets its contract. Assumes nothing.
+-- `visit::verdict_of` meets its contract. Assumes nothing.
 use borrow.Author.Tests.{lt-ltb, le-ltb}
 use Rattle.visit.proofs.verdict_of.Statement.{statement}
 use Rattle.visit.proofs.verdict_of.Tie as tie

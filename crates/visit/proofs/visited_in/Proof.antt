@@ -1,4 +1,4 @@
--- `core::visited_in` meets its contract. Assumes nothing.
+-- `visit::visited_in` meets its contract. Assumes nothing.
 use borrow.Author.Tests.{lt-ltb, le-ltb}
 use Rattle.visit.proofs.visited_in.Statement.{statement}
 use Rattle.visit.proofs.visited_in.Tie as tie

@@ -1,23 +1,17 @@
--- `core::waiter_of` meets its contract. Assumes nothing.
-use native.Mathlib.Omega.{arith}
+-- `visit::waiter_of` meets its contract. Assumes nothing.
 use borrow.Author.Needs.{needs}
-use Rattle.kung.specs.Rule.{kindOf}
-use Rattle.kung.specs.Operation.{opOf}
-use Rattle.visit.proofs.Codes.{op-small, waiter-code}
+use Rattle.visit.proofs.Codes.{waiter-code}
 use Rattle.visit.proofs.waiter_of.Statement.{statement}
 use Rattle.visit.proofs.waiter_of.Tie as tie
 
-operation-of-requires : tie.Need-operation-of-requires
-operation-of-requires c κs = search needs
-
 mul-result : tie.Need-mul-result
-mul-result c = omega (arith, op-small (opOf (kindOf (c .before .args .kind))))
+mul-result c = search needs
 
 add-result : tie.Need-add-result
-add-result c = omega (arith, op-small (opOf (kindOf (c .before .args .kind))))
+add-result c = search needs
 
 returns : tie.Need-returns
-returns c = rw (c .operation-of .ensures) (waiter-code (opOf (kindOf (c .before .args .kind))) (c .before .args .p))
+returns c = waiter-code (c .args .operation) (c .args .p)
 
 pub waiter-of-spec : {M : Type 1} → statement M
-waiter-of-spec = tie.close (tie.spec operation-of-requires mul-result add-result returns)
+waiter-of-spec = tie.close (tie.spec mul-result add-result returns)

@@ -4,7 +4,7 @@ use native.Mathlib.Omega.{arith}
 use native.Mathlib.Nat.{add-zero, zero-add}
 use mathlib.Core.Path.{_≡_}
 use borrow.Author.Needs.{needs}
-use Rattle.words.specs.Words.{sumAt}
+use Rattle.words.specs.Blocks.{sumAt}
 use Rattle.words.proofs.Laws.{sum-more, sum-end}
 use Rattle.words.proofs.block_sum.Statement.{statement}
 use Rattle.words.proofs.block_sum.Tie as tie
@@ -18,17 +18,17 @@ abbrev μ-loop : tie.MeasureT-loop
 loop-holds : tie.Need-loop-holds Inv-loop μ-loop
 loop-holds c = (search needs, search needs, rw (add-zero, zero-add))
 
-add-sum : tie.Need-add-sum Inv-loop μ-loop
-add-sum c = search needs
+add-wrapping-add-u32 : tie.Need-add-wrapping-add-u32 Inv-loop μ-loop
+add-wrapping-add-u32 c = search needs
 
-shared-slice-read-sum : tie.Need-shared-slice-read-sum Inv-loop μ-loop
-shared-slice-read-sum c = search needs
+shared-slice-read-wrapping-add-u32 : tie.Need-shared-slice-read-wrapping-add-u32 Inv-loop μ-loop
+shared-slice-read-wrapping-add-u32 c = search needs
 
-cast-sum : tie.Need-cast-sum Inv-loop μ-loop
-cast-sum c = omega (arith, c .shared-slice-known .given (c .before .before .before .args .at + c .before .before .loop .k))
+cast-wrapping-add-u32 : tie.Need-cast-wrapping-add-u32 Inv-loop μ-loop
+cast-wrapping-add-u32 c = omega (arith, c .shared-slice-known2 .given (c .before .before .before .before .args .at + c .before .before .loop .k))
 
-add-sum-2 : tie.Need-add-sum-2 Inv-loop μ-loop
-add-sum-2 c = omega (arith, c .shared-slice-known .given (c .before .before .before .args .at + c .before .before .loop .k))
+wrapping-add-u32-requires : tie.Need-wrapping-add-u32-requires Inv-loop μ-loop
+wrapping-add-u32-requires c κs = search needs
 
 add-k : tie.Need-add-k Inv-loop μ-loop
 add-k c = search needs
@@ -38,13 +38,15 @@ loop-less c = search needs
 
 loop-again : tie.Need-loop-again Inv-loop μ-loop
 loop-again c =
-    let a = c .before .before in
-    let at = a .before .args in
+    let a = c .before .before .before in
+    let at = a .before .before .args in
     let e = sum-more 64 (at .s .now) (at .at) (a .loop .k) (search needs) in
-    (search needs, omega (arith, c .shared-slice-known .given (c .before .before .before .args .at + c .before .before .loop .k)), omega (arith, a .loop .inv .2))
+    let small = c .before .shared-slice-known2 .given (at .at + a .loop .k) in
+    let sum = c .wrapping-add-u32 .ensures in
+    (search needs, omega arith, omega (arith, a .loop .inv .2))
 
 returns : tie.Need-returns Inv-loop μ-loop
-returns c = let a = c .before in omega (arith, a .loop .inv .2, sum-end 64 (a .before .args .s .now) (a .before .args .at + a .loop .k) (a .loop .k) (search needs))
+returns c = let a = c .before in omega (arith, a .loop .inv .2, sum-end 64 (a .before .before .args .s .now) (a .before .before .args .at + a .loop .k) (a .loop .k) (search needs))
 
 pub block-sum-spec : {M : Type 1} → statement M
 block-sum-spec =
@@ -53,10 +55,10 @@ block-sum-spec =
     Inv-loop
     μ-loop
     loop-holds
-    add-sum
-    shared-slice-read-sum
-    cast-sum
-    add-sum-2
+    add-wrapping-add-u32
+    shared-slice-read-wrapping-add-u32
+    cast-wrapping-add-u32
+    wrapping-add-u32-requires
     add-k
     loop-less
     loop-again

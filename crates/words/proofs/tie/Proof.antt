@@ -3,7 +3,8 @@ use Prim.Native.Nat.{_-_, _*_, _≤_, _<_}
 use native.Mathlib.Omega.{arith}
 use mathlib.Core.Path.{_≡_, _∙_, refl, sym}
 use lib.ListN.{length, drop}
-use Rattle.words.specs.Words.{tieFrom, tieOf, weightAt}
+use Rattle.words.specs.Words.{tieFrom, tieOf}
+use Rattle.words.specs.Blocks.{weightAt}
 use Rattle.words.proofs.Laws.{tie-block, carried}
 use borrow.Author.Needs.{needs}
 use Rattle.words.proofs.tie.Statement.{statement}
@@ -22,14 +23,8 @@ loop-holds c = (search needs, search needs, search needs, refl)
 add-loop : tie.Need-add-loop Inv-loop μ-loop
 add-loop c = search needs
 
-cast-carried : tie.Need-cast-carried Inv-loop μ-loop
-cast-carried c = search needs
-
-mul-carried : tie.Need-mul-carried Inv-loop μ-loop
-mul-carried c = search needs
-
-cast-carried-2 : tie.Need-cast-carried-2 Inv-loop μ-loop
-cast-carried-2 c = search needs
+times-64-requires : tie.Need-times-64-requires Inv-loop μ-loop
+times-64-requires c κs = search needs
 
 wrapping-add-u32-requires : tie.Need-wrapping-add-u32-requires Inv-loop μ-loop
 wrapping-add-u32-requires c κs = search needs
@@ -54,15 +49,16 @@ loop-less c = search needs
 
 loop-again : tie.Need-loop-again Inv-loop μ-loop
 loop-again c =
-    let l = c .before .before .before .before .before .before in
+    let l = c .before .before .before .before .before .before .before in
     let e = l .loop .inv .3 ∙ tie-block 64 (l .loop .a) (l .loop .b) (l .before .before .args .s .now) (l .loop .i) (search needs) (search needs) (search needs) in
     let d = carried (l .loop .b) (64 * l .loop .a) (weightAt 64 (l .before .before .args .s .now) (l .loop .i)) in
     let second = c .before .before in
-    let weight = second .before .block-weight .ensures in (
+    let weight = second .before .block-weight .ensures in
+    let first = second .before .before in (
       search needs,
       omega (arith, c .wrapping-add-u323 .ensures),
       omega (arith, second .wrapping-add-u322 .ensures),
-      rw (c .wrapping-add-u323 .ensures, c .before .block-sum .ensures, second .wrapping-add-u322 .ensures, weight, second .before .before .wrapping-add-u32 .ensures, d) e,
+      rw (c .wrapping-add-u323 .ensures, c .before .block-sum .ensures, second .wrapping-add-u322 .ensures, weight, first .wrapping-add-u32 .ensures, first .before .times-64 .ensures, d) e,
     )
 
 tie-from-requires : tie.Need-tie-from-requires Inv-loop μ-loop
@@ -79,9 +75,7 @@ tie-spec =
     μ-loop
     loop-holds
     add-loop
-    cast-carried
-    mul-carried
-    cast-carried-2
+    times-64-requires
     wrapping-add-u32-requires
     block-weight-requires
     wrapping-add-u32-requires-2

@@ -35,7 +35,9 @@ impl Met {
         );
     }
 
+    /// Prints what was met: accepted ones and refused ones, or it is too little.
     pub fn print(&self, name: &str) {
+        assert!(self.accepted > 0 && self.compared > self.accepted, "{name}");
         let refused: Vec<String> = self
             .refused
             .iter()

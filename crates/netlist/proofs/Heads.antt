@@ -1,0 +1,79 @@
+-- A record up to its pins, test by test, and as the first part of the record. Assumes nothing.
+use Prim.Native.Nat.{ℕ, _+_, _-_, _≤_, _<_}
+use native.Mathlib.Omega.{arith}
+use mathlib.Core.Path.{_≡_, refl, _∙_}
+use mathlib.Core.Bool.{Bool, true, false}
+use mathlib.Core.List.{List}
+use borrow.Author.Tests.{lt-ltb, le-ltb, ltb-false}
+use lib.ListN.{length}
+use Rattle.words.specs.Words.{outside}
+use Rattle.words.specs.Refusal.{refuse}
+use Rattle.words.proofs.Refusal.{passed}
+use Rattle.netlist.specs.declared.Checked.{Checked}
+use Rattle.netlist.specs.declared.Checked.the-variants as netlist
+use Rattle.netlist.specs.declared.Head.{Head}
+use Rattle.netlist.specs.declared.Head.the-variants.{Pins, Refused}
+use Rattle.netlist.specs.Netlist.{kindAt, countAt, pastRecord, noKind, leastPins, mostPins, wordsBelow, recordAt}
+use Rattle.netlist.specs.Reading.{headAt}
+
+-- the tests in turn
+module _ (s : List ℕ) (at : ℕ) where
+  pub head-bare : length s < at + 2 → Refused 5 at ≡ headAt s at
+  unfolding headAt refuse
+  head-bare h = rw (lt-ltb (length s) (at + 2) h)
+
+  module _ (two : at + 2 ≤ length s) where
+    pub head-kind : noKind (kindAt s at) ≡ true → Refused 6 at ≡ headAt s at
+    unfolding headAt refuse
+    head-kind e = rw (le-ltb (length s) (at + 2) two, e)
+
+    module _ (kind : noKind (kindAt s at) ≡ false) where
+      pub head-count : outside (leastPins (kindAt s at)) (mostPins (kindAt s at)) (countAt s at) ≡ true → Refused 7 (at + 1) ≡ headAt s at
+      unfolding headAt refuse
+      head-count e = rw (le-ltb (length s) (at + 2) two, kind, e)
+
+      module _ (count : outside (leastPins (kindAt s at)) (mostPins (kindAt s at)) (countAt s at) ≡ false) where
+        pub head-cut : length s < pastRecord s at → Refused 5 at ≡ headAt s at
+        unfolding headAt refuse
+        head-cut h = rw (le-ltb (length s) (at + 2) two, kind, count, lt-ltb (length s) (pastRecord s at) h)
+
+        pub head-pins : pastRecord s at ≤ length s → Pins (countAt s at) ≡ headAt s at
+        unfolding headAt refuse
+        head-pins h = rw (le-ltb (length s) (at + 2) two, kind, count, le-ltb (length s) (pastRecord s at) h)
+
+-- a head that is not refused
+pub head-told : {count : ℕ} (s : List ℕ) (at : ℕ) → headAt s at ≡ Pins count → (count ≡ countAt s at) × (pastRecord s at ≤ length s)
+unfolding headAt
+head-told {count} s at h =
+    let two = step _ _ _ _ h in
+    let kind = step _ _ _ _ (two .1) in
+    let fit = step _ _ _ _ (kind .1) in
+    let room = step _ _ _ _ (fit .1) in
+    (cc (room .1), ltb-false _ _ (room .0))
+  where
+    step : (met : Bool) (number place : ℕ) (next : Head) → refuse Refused met number place next ≡ Pins count → (met ≡ false) × (next ≡ Pins count)
+    step met number place next = passed Refused met number place next (Pins count) (λ d. let z : _≡_ {A = ℕ} 0 1 = cc in absurd (omega arith))
+
+-- what is refused up to the pins is refused; else the pins decide
+byHead : Head → Checked → Checked
+byHead (Pins count) next = next
+byHead (Refused number place) next = netlist.Refused number place
+
+by-refuse : (met : Bool) (number place : ℕ) (head : Head) (next : Checked)
+    → byHead (refuse Refused met number place head) next ≡ refuse netlist.Refused met number place (byHead head next)
+unfolding refuse byHead
+by-refuse true number place head next = refl
+by-refuse false number place head next = refl
+
+module _ (s : List ℕ) (signal at : ℕ) (next : Checked) where
+  record-head : recordAt s signal at next ≡ byHead (headAt s at) (wordsBelow (countAt s at) s (at + 2) signal 8 next)
+  unfolding recordAt headAt byHead
+  record-head = rw (by-refuse, by-refuse, by-refuse, by-refuse)
+
+  pub record-refused : {number place : ℕ} → headAt s at ≡ Refused number place → recordAt s signal at next ≡ netlist.Refused number place
+  unfolding byHead
+  record-refused e = record-head ∙ rw e
+
+  pub record-pins : {count : ℕ} → headAt s at ≡ Pins count → recordAt s signal at next ≡ wordsBelow count s (at + 2) signal 8 next
+  unfolding byHead
+  record-pins e = record-head ∙ rw (e, head-told s at e .0)
