@@ -4,6 +4,8 @@ use mathlib.Core.Path.{_≡_}
 use mathlib.Core.List.{List}
 use borrow.Author.Tests.{lt-ltb, le-ltb}
 use lib.ListN.{length}
+use Rattle.words.specs.Refusal.{refuse}
+use Rattle.changes.specs.declared.Task.{Task}
 use Rattle.changes.specs.declared.Listed.the-variants as list
 use Rattle.changes.specs.Refusals.{listChecked}
 use Rattle.changes.proofs.Accepted.{listed}
@@ -15,21 +17,21 @@ use Rattle.batch.proofs.Rows.{Regular, rows-length}
 
 module _ (m : Method) (n l buffer : List ℕ) where
   pub refused-list : (number place : ℕ) → listChecked n l ≡ list.Refused number place → Answers m n l buffer buffer (Refused number place)
-  unfolding allAnswer allBuffer allFrom
+  unfolding allAnswer allBuffer allFrom refuse
   refused-list number place e = record { answer = rw e; bytes = rw e }
 
-  module _ {i g o p s t v w : ℕ} (e : listChecked n l ≡ list.Accepted i g o p s t v) (r : Regular m w) where
-    pub refused-room : length buffer < t * w → Answers m n l buffer buffer (Refused 20 0)
-    unfolding allAnswer allBuffer allFrom
+  module _ {task : Task} {w : ℕ} (e : listChecked n l ≡ list.Accepted task) (r : Regular m w) where
+    pub refused-room : length buffer < task .changes * w → Answers m n l buffer buffer (Refused 20 0)
+    unfolding allAnswer allBuffer allFrom refuse
     refused-room small =
-        let short = lt-ltb (length buffer) (t * m .width) (rw (r .wide) at small) in
+        let short = lt-ltb (length buffer) (task .changes * m .width) (rw (r .wide) at small) in
         record { answer = rw (e, short); bytes = rw (e, short) }
 
-    pub done : t * w ≤ length buffer → (answer : Judged) (exit : List ℕ) → Judges m t buffer exit answer → Answers m n l buffer exit answer
-    unfolding allAnswer allBuffer allFrom
+    pub done : task .changes * w ≤ length buffer → (answer : Judged) (exit : List ℕ) → Judges m (task .changes) buffer exit answer → Answers m n l buffer exit answer
+    unfolding allAnswer allBuffer allFrom refuse
     done room answer exit h =
-        let enough = le-ltb (length buffer) (t * m .width) (rw (r .wide) at room) in
+        let enough = le-ltb (length buffer) (task .changes * m .width) (rw (r .wide) at room) in
         record {
           answer = rw (e, enough) (h .answer);
-          bytes = rw (e, enough, ← listed n l e .changes-are, rows-length r t, r .wide) (h .bytes);
+          bytes = rw (e, enough, ← listed n l e .changes-are, rows-length r (task .changes), r .wide) (h .bytes);
         }

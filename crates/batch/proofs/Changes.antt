@@ -4,44 +4,46 @@ use native.Mathlib.Omega.{arith}
 use native.Mathlib.Numerals.{add-one}
 use native.Mathlib.Nat.{add-comm, suc-mul, le-trans, mul-le-mul}
 use mathlib.Core.Bool.{Bool, true, false}
-use mathlib.Core.Path.{_≡_, refl, sym, _∙_, ap, ap₂, subst, fun-ext}
+use mathlib.Core.Path.{_≡_, refl, sym, _∙_, ap}
 use mathlib.Core.List.{List, _++_}
 use mathlib.Core.Option.{Option}
-use lib.ListN.{length, drop}
+use lib.ListN.{length, drop, replicate}
+use lib.Seq.{drop-at}
 use Rattle.kung.specs.Class.{Class}
 use Rattle.kung.specs.Rule.{some}
 use Rattle.kung.specs.Sets.{bit, cleanSet}
-use Rattle.kung.specs.Tables.{tab, imageTable, wantedTable}
+use Rattle.kung.specs.Tables.{tab, imageTable}
+use Rattle.kung.specs.Lookup.{lookupTable}
 use Rattle.circuit.specs.Circuit.{Card}
-use Rattle.words.specs.Words.{wordAt}
 use Rattle.netlist.specs.Netlist.{inputsOf, gatesOf, outputsOf, outputAt, cardOf}
-use Rattle.netlist.specs.Index.{placesOf}
+use Rattle.netlist.specs.declared.Shape.{Shape}
 use Rattle.netlist.specs.Formed.{Formed}
 use Rattle.netlist.proofs.Accepted.{formed}
+use Rattle.changes.specs.declared.Task.{Task}
 use Rattle.changes.specs.declared.Listed.the-variants.{Accepted}
 use Rattle.changes.specs.Changes.{widthOf, inputClassAt}
-use Rattle.changes.specs.Written.{written}
+use Rattle.changes.specs.Lent.{Accepts, signalsOf}
+use Rattle.changes.specs.Written.{inputCodes, codeAt, written}
 use Rattle.changes.specs.Refusals.{listChecked}
 use Rattle.changes.proofs.Laws.{tab-length, written-all}
 use Rattle.changes.proofs.Accepted.{listed}
 use Rattle.simulate.proofs.Theorems.{codes-length}
 use Rattle.search.specs.Search.{Answer, search}
 use Rattle.search.specs.Pins.{sumBelow}
-use Rattle.visit.specs.Source.{sourceFrom}
-use Rattle.visit.specs.Lent.{inputsKnown, GatesOnly}
+use Rattle.visit.specs.Lent.{inputsKnown}
 use Rattle.core.specs.Core.{searchOf}
 use Rattle.core.specs.Outputs.{verdictByte, searchFrom, byteFrom, sumFrom}
 use Rattle.core.specs.Lent.{OutputsReady}
-use Rattle.core.proofs.Cards.{ready, inputs-only}
-use Rattle.core.proofs.Entry.{known-length, search-is}
+use Rattle.core.proofs.Entry.{known-all, ready, output-is, outputs-ready, search-is}
 use Rattle.core.proofs.Outputs.{search-few}
 use Rattle.core.proofs.Theorems.{pins-within, gates-within}
 use Rattle.forward.specs.Constants.{isKnown, touched}
+use Rattle.forward.proofs.Changes.{sum-ext, tab-ext}
 use Rattle.forward.specs.Forward.{constantsIn, touchedIn, outputSearch, visitedIn, forwardBytes}
 use Rattle.batch.specs.declared.Analysis.{Analysis}
 use Rattle.batch.specs.declared.Analysis.the-variants.{Full, Forward, Core}
 use Rattle.batch.specs.Batch.{coreBytes, coreSum, fullOf, forwardOf, coreOf}
-use Rattle.batch.specs.Lent.{methodOf, widthFor}
+use Rattle.batch.specs.Lent.{CellRoom, methodOf, widthFor}
 use Rattle.batch.proofs.Rows.{Regular}
 
 -- numbers of at most b each
@@ -75,13 +77,16 @@ pub counted-next : {f : ℕ → ℕ} {c sum : ℕ} → Counted f c sum → (more
 unfolding sumBelow
 counted-next {c = c} s more e h = record { is = rw (s .is, e, add-one c) (add-comm _ _); high = omega (arith, s .high) }
 
-module _ {i g o p e t w : ℕ} (n l : List ℕ) (accepted : listChecked n l ≡ Accepted i g o p e t w) where
-  pub card : Formed n i g o p e
+module _ {task : Task} (n l : List ℕ) (accepted : listChecked n l ≡ Accepted task) where
+  abbrev o : ℕ
+  o = task .shape .outputs
+
+  pub card : Formed n (task .shape)
   card = formed n (listed n l accepted .netlist-accepted)
 
-  pub full-regular : Regular (fullOf n l) (i + g)
+  pub full-regular : Regular (fullOf n l) (signalsOf (task .shape))
   full-regular =
-      let wide : i + g ≡ inputsOf n + gatesOf n = omega (arith, card .inputs-are, card .gates-are) in
+      let wide : signalsOf (task .shape) ≡ inputsOf n + gatesOf n = omega (arith, card .inputs-are, card .gates-are) in
       record { wide = wide; each = λ t. codes-length n l t ∙ sym wide }
 
   pub forward-regular : Regular (forwardOf n l) o
@@ -92,19 +97,19 @@ module _ {i g o p e t w : ℕ} (n l : List ℕ) (accepted : listChecked n l ≡ 
   unfolding coreBytes
   core-regular = record { wide = card .outputs-are; each = λ t. tab-length _ 0 (outputsOf n) ∙ sym (card .outputs-are) }
 
-  pub regular : (a : Analysis) → Regular (methodOf a n l) (widthFor a (i + g) o)
+  pub regular : (a : Analysis) → Regular (methodOf a n l) (widthFor a (task .shape))
   regular Full = full-regular
   regular Forward = forward-regular
   regular Core = core-regular
 
-  pub width-high : (a : Analysis) → widthFor a (i + g) o ≤ 2304
+  pub width-high : (a : Analysis) → widthFor a (task .shape) ≤ 2304
   width-high Full = omega (arith, card .inputs-high, card .gates-high)
   width-high Forward = omega (arith, card .outputs-high)
   width-high Core = omega (arith, card .outputs-high)
 
   -- what all rows together take fits
-  pub rows-fit : (w : ℕ) → w ≤ 2304 → t * w ≤ 2304000
-  rows-fit w h = mul-le-mul {n₁ = t} {m₁ = w} {n₂ = 1000} {m₂ = 2304} (listed n l accepted .changes-high) h
+  pub rows-fit : (w : ℕ) → w ≤ 2304 → task .changes * w ≤ 2304000
+  rows-fit w h = mul-le-mul {n₁ = task .changes} {m₁ = w} {n₂ = 1000} {m₂ = 2304} (listed n l accepted .changes-high) h
 
   pub touched-high : (c : ℕ) → touchedIn n l c ≤ 1179648
   unfolding touchedIn cardOf
@@ -129,33 +134,46 @@ module _ {i g o p e t w : ℕ} (n l : List ℕ) (accepted : listChecked n l ≡ 
         outputs-high _ (λ k h. omega (arith, pins k)),
       )
 
-  -- CORE on a change: the inputs are known, and no gate
-  module _ (c : ℕ) (known : List ℕ) (is : known ≡ inputsKnown n (inputClassAt l (widthOf (inputsOf n)) c)) where
-    signals : length known ≡ i + g
-    signals = ap length is ∙ known-length n card (inputClassAt l (widthOf (inputsOf n)) c)
+-- filling the inputs of the next change leaves CORE its room: only their bytes are written
+pub room-next : {shape : Shape} {old cells : List ℕ} → CellRoom old cells shape → (l : List ℕ) (w t : ℕ) (filled after : List ℕ)
+    → filled ≡ inputCodes l w t (shape .inputs) ++ drop (shape .inputs) old → length filled ≡ length old → length after ≡ length cells → CellRoom filled after shape
+room-next {shape} {old} r l w t filled after e same all =
+    let i = shape .inputs in
+    record {
+      told = omega (arith, r .told);
+      celled = omega (arith, r .celled);
+      none-known =
+          ap (drop i) e ∙ drop-at (inputCodes l w t i) (drop i old) i (tab-length (codeAt l w t) 0 i) ∙ r .none-known
+          ∙ ap (λ n. drop i (replicate n 8)) (sym same);
+    }
 
-    pub searchable : {images wanteds : List ℕ} (places rest : List ℕ) (room : ℕ) → images ≡ imageTable → wanteds ≡ wantedTable
-        → places ≡ placesOf n g ++ rest → o ≤ room → OutputsReady images wanteds n places known i o e room
-    searchable places rest room images-are wanteds-are places-are enough =
-        record {
-          ready = ready n places rest images-are wanteds-are card places-are (subst (GatesOnly n) (sym is) (inputs-only n (inputClassAt l (widthOf (inputsOf n)) c)));
-          signals-high = omega (arith, signals, card .inputs-high, card .gates-high);
-          outputs-high = card .outputs-high;
-          output-below = λ out below. omega (arith, signals, rw (← card .entries-are) at (card .output-below out below));
-          enough = enough;
-        }
+-- CORE on a change: the inputs are known, and no gate
+module _ (n l rows : List ℕ) (task : Task) (a : Accepts n l rows task) (c : ℕ) (known : List ℕ)
+    (is : known ≡ inputsKnown (inputsOf n) (gatesOf n) (inputClassAt l (widthOf (inputsOf n)) c)) where
+  abbrev outputs : ℕ
+  outputs = task .shape .outputs
 
-    search-same : (out : ℕ) → searchFrom n known e out ≡ searchOf n l c out
-    unfolding searchFrom searchOf
-    search-same out =
-        ap₂ (λ k at. search (sourceFrom n k) cleanSet (wordAt n (at + 2 * out))) is (card .entries-are) ∙ search-is n l c cleanSet (outputAt n out)
+  abbrev signals : ℕ
+  signals = signalsOf (task .shape)
 
-    pub sums-are : (count : Answer → ℕ) → sumFrom count n known e o ≡ coreSum count n l c
-    unfolding coreSum
-    sums-are count = ap₂ sumBelow (fun-ext (λ out. ap count (search-same out))) (card .outputs-are)
+  pub searchable : {images lookup : List ℕ} (room : ℕ) → images ≡ imageTable → lookup ≡ lookupTable → outputs ≤ room
+      → OutputsReady images lookup rows known (task .shape) room
+  searchable room images-are lookup-are enough =
+      outputs-ready n l rows task a c known (ready n l rows task a c images-are lookup-are known is) (ap length is ∙ known-all n l rows task a c) room enough
 
-    pub bytes-are : (old : List ℕ) → written old 0 (byteFrom n known e) o ≡ coreBytes n l c ++ drop o old
-    unfolding coreBytes
-    bytes-are old =
-        written-all old (byteFrom n known e) o
-        ∙ ap₂ (λ byte m. tab byte 0 m ++ drop o old) (fun-ext (λ out. ap (λ a. verdictByte (a .verdict)) (search-same out))) (card .outputs-are)
+  search-same : (out : ℕ) → out < outputs → searchFrom rows known signals out ≡ searchOf n l c out
+  unfolding searchFrom searchOf
+  search-same out h =
+      search-is n l rows task a c known is cleanSet _ ∙ ap (search _ cleanSet) (output-is n l rows task a c out h)
+
+  pub sums-are : (count : Answer → ℕ) → sumFrom count rows known signals outputs ≡ coreSum count n l c
+  unfolding coreSum
+  sums-are count =
+      sum-ext _ _ outputs (λ out h. ap count (search-same out h)) ∙ ap (sumBelow _) (card n l (a .accepted) .outputs-are)
+
+  pub bytes-are : (old : List ℕ) → written old 0 (byteFrom rows known signals) outputs ≡ coreBytes n l c ++ drop outputs old
+  unfolding coreBytes
+  bytes-are old =
+      written-all old (byteFrom rows known signals) outputs
+      ∙ ap (λ bytes. bytes ++ drop outputs old)
+      (tab-ext _ _ outputs (λ out h. ap (λ a. verdictByte (a .verdict)) (search-same out h)) ∙ ap (tab _ 0) (card n l (a .accepted) .outputs-are))

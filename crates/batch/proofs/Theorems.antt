@@ -3,7 +3,7 @@ use Prim.Native.Nat.{ℕ, zero, suc, _+_, _*_, _≤_, _<_}
 use native.Mathlib.Omega.{arith}
 use native.Mathlib.Decide.{decLt}
 use mathlib.Core.Path.{_≡_, refl, sym, _∙_, ap, subst}
-use mathlib.Core.Bool.{Bool, true, false, cond}
+use mathlib.Core.Bool.{Bool, true, false}
 use mathlib.Core.List.{List, [], _∷_, _++_, append-assoc}
 use borrow.Author.Tests.{le-ltb}
 use lib.Dec.{ltb}
@@ -15,6 +15,7 @@ use Rattle.netlist.specs.Netlist.{inputsOf, gatesOf, outputsOf}
 use Rattle.changes.specs.declared.Listed.{Listed}
 use Rattle.changes.specs.declared.Listed.the-variants as list
 use Rattle.changes.specs.Refusals.{listChecked}
+use Rattle.changes.specs.declared.Task.{Task}
 use Rattle.changes.proofs.Accepted.{listed}
 use Rattle.simulate.specs.Full.{codes}
 use Rattle.simulate.proofs.Answers as simulate
@@ -50,50 +51,34 @@ rows-part {m} {w} r (suc T) t rest early =
         ∙ take-at (m .row T) rest w (r .each T))
 
 -- a call that is not refused: its list is accepted, and it answers with the method's numbers
-record Accepts (m : Method) (n l buffer : List ℕ) (T width first second : ℕ) : Type 0 where
-  inputs : ℕ
-  gates : ℕ
-  outputs : ℕ
-  pins : ℕ
-  entries : ℕ
-  vector : ℕ
-  accepted : listChecked n l ≡ list.Accepted inputs gates outputs pins entries T vector
+record Answered (m : Method) (n l buffer : List ℕ) (T width first second : ℕ) : Type 0 where
+  task : Task
+  accepted : listChecked n l ≡ list.Accepted task
+  changes-are : task .changes ≡ T
   width-is : width ≡ m .width
   first-is : first ≡ m .first T
   second-is : second ≡ m .second T
 
 module _ (m : Method) (n l buffer : List ℕ) {T width first second : ℕ} (done : allAnswer m n l buffer ≡ Done T width first second) where
-  accepts : Accepts m n l buffer T width first second
-  unfolding allAnswer allFrom
-  accepts = go (listChecked n l) refl done
+  answered-by : Answered m n l buffer T width first second
+  unfolding allAnswer allFrom refuse
+  answered-by = go (listChecked n l) refl done
     where
-      go : (x : Listed) → listChecked n l ≡ x → allFrom m x (length buffer) ≡ Done T width first second → Accepts m n l buffer T width first second
+      go : (x : Listed) → listChecked n l ≡ x → allFrom m x (length buffer) ≡ Done T width first second → Answered m n l buffer T width first second
       go (list.Refused number place) e h = let z : _≡_ {A = ℕ} 0 1 = cc in absurd (omega arith)
-      go (list.Accepted i g o p s t v) e h = room (ltb (length buffer) (t * m .width)) h
+      go (list.Accepted task) e h = room (ltb (length buffer) (task .changes * m .width)) h
         where
-          room : (b : Bool) → cond b (Refused 20 0) (doneFor m t) ≡ Done T width first second → Accepts m n l buffer T width first second
+          room : (b : Bool) → refuse Refused b 20 0 (doneFor m (task .changes)) ≡ Done T width first second → Answered m n l buffer T width first second
           room true h = let z : _≡_ {A = ℕ} 0 1 = cc in absurd (omega arith)
           room false h =
-              let same : t ≡ T = cc in
-              record {
-                inputs = i;
-                gates = g;
-                outputs = o;
-                pins = p;
-                entries = s;
-                vector = v;
-                accepted = e ∙ ap (λ t. list.Accepted i g o p s t v) same;
-                width-is = cc;
-                first-is = cc;
-                second-is = cc;
-              }
+              let same : task .changes ≡ T = cc in record { task = task; accepted = e; changes-are = same; width-is = cc; first-is = cc; second-is = cc }
 
   row-at : {w : ℕ} → Regular m w → (t : ℕ) → t < T → take width (drop (t * width) (allBuffer m n l buffer)) ≡ m .row t
   unfolding allBuffer
   row-at {w} r t early =
       let all : List ℕ = rows (m .row) T ++ drop (length (rows (m .row) T)) buffer in
-      let full : allBuffer m n l buffer ≡ all = rw (done, ← listed n l (accepts .accepted) .changes-are) in
-      let wide : width ≡ w = accepts .width-is ∙ sym (r .wide) in
+      let full : allBuffer m n l buffer ≡ all = rw (done, ← listed n l (answered-by .accepted) .changes-are, answered-by .changes-are) in
+      let wide : width ≡ w = answered-by .width-is ∙ sym (r .wide) in
       rw (full, wide) (rows-part r T t _ early)
 
   -- what holds of each row of the method holds of the rows in the buffer
@@ -105,8 +90,8 @@ module _ (m : Method) (n l buffer : List ℕ) {T width first second : ℕ} (done
         firsts = firsts;
         seconds = seconds;
         each = λ t early. subst (λ row. Alone t row (firsts t) (seconds t)) (sym (row-at r t early)) (each t early);
-        first-sum = accepts .first-is ∙ first-sum;
-        second-sum = accepts .second-is ∙ second-sum;
+        first-sum = answered-by .first-is ∙ first-sum;
+        second-sum = answered-by .second-is ∙ second-sum;
       }
 
 sum-none : (n : ℕ) → 0 ≡ sumBelow (λ t. 0) n
@@ -121,7 +106,10 @@ getD-any (x ∷ l) zero d e h = refl
 getD-any (x ∷ l) (suc k) d e h = getD-any l k d e (omega arith)
 
 -- each method's calls for a change of an accepted list
-module _ {i g o p s T w : ℕ} (n l : List ℕ) (accepted : listChecked n l ≡ list.Accepted i g o p s T w) (t : ℕ) (early : t < T) where
+module _ {task : Task} (n l : List ℕ) (accepted : listChecked n l ≡ list.Accepted task) (t : ℕ) (early : t < task .changes) where
+  abbrev o : ℕ
+  o = task .shape .outputs
+
   full-alone : FullAlone n l t (codes n l t) 0 0
   full-alone =
       let f = full-regular n l accepted in
@@ -149,7 +137,7 @@ module _ {i g o p s T w : ℕ} (n l : List ℕ) (accepted : listChecked n l ≡ 
       → coreAnswer n l t output ≡ answered (searchOf n l t output .verdict) (searchOf n l t output .gates) (searchOf n l t output .pins)
   unfolding guarded refuse
   core-answer output is =
-      sym (answers n l t output accepted early is) ∙ rw (le-ltb p (searchOf n l t output .pins) (pins-within n l accepted t output))
+      sym (answers n l t output accepted early is) ∙ rw (le-ltb (task .shape .pins) (searchOf n l t output .pins) (pins-within n l accepted t output))
 
   core-byte : (output : ℕ) → output < o → getD (coreBytes n l t) output 2 ≡ verdictByte (searchOf n l t output .verdict)
   unfolding coreBytes
@@ -183,7 +171,16 @@ module _ {i g o p s T w : ℕ} (n l : List ℕ) (accepted : listChecked n l ≡ 
 pub single-calls : (n l buffer : List ℕ) (T width first second : ℕ) → SingleCalls n l buffer T width first second
 single-calls n l buffer T width first second =
     record {
-      full = λ done. let e = accepts _ _ _ _ done .accepted in by-rows _ _ _ _ done _ (full-regular n l e) _ _ (sum-none T) (sum-none T) (full-alone n l e);
-      forward = λ done. let e = accepts _ _ _ _ done .accepted in by-rows _ _ _ _ done _ (forward-regular n l e) _ _ refl refl (forward-alone n l e);
-      core = λ done. let e = accepts _ _ _ _ done .accepted in by-rows _ _ _ _ done _ (core-regular n l e) _ _ refl refl (core-alone n l e);
+      full =
+          λ done.
+          let a = answered-by _ _ _ _ done in
+          by-rows _ _ _ _ done _ (full-regular n l (a .accepted)) _ _ (sum-none T) (sum-none T) (λ t early. full-alone n l (a .accepted) t (omega (arith, a .changes-are)));
+      forward =
+          λ done.
+          let a = answered-by _ _ _ _ done in
+          by-rows _ _ _ _ done _ (forward-regular n l (a .accepted)) _ _ refl refl (λ t early. forward-alone n l (a .accepted) t (omega (arith, a .changes-are)));
+      core =
+          λ done.
+          let a = answered-by _ _ _ _ done in
+          by-rows _ _ _ _ done _ (core-regular n l (a .accepted)) _ _ refl refl (λ t early. core-alone n l (a .accepted) t (omega (arith, a .changes-are)));
     }

@@ -1,11 +1,11 @@
 -- Every change of a list in one call: full simulation, the forward method and CORE for all changes, one after the other.
 use Prim.Native.Nat.{ℕ, zero, suc, _+_, _*_}
 use mathlib.Core.Path.{_≡_}
-use mathlib.Core.Bool.{cond}
 use mathlib.Core.List.{List, [], _++_}
 use lib.Dec.{ltb}
 use lib.ListN.{length, drop}
 use Rattle.kung.specs.Tables.{tab}
+use Rattle.words.specs.Refusal.{refuse}
 use Rattle.netlist.specs.Netlist.{inputsOf, gatesOf, outputsOf}
 use Rattle.changes.specs.declared.Listed.{Listed}
 use Rattle.changes.specs.declared.Listed.the-variants as list
@@ -65,7 +65,7 @@ doneFor m T = Done T (m .width) (m .first T) (m .second T)
 -- The list's refusals, then 20 where the buffer has fewer bytes than the rows.
 unfoldable pub allFrom : Method → Listed → (room : ℕ) → Judged
 allFrom m (list.Refused number place) room = Refused number place
-allFrom m (list.Accepted inputs gates outputs pins entries changes width) room = cond (ltb room (changes * m .width)) (Refused 20 0) (doneFor m changes)
+allFrom m (list.Accepted task) room = refuse Refused (ltb room (task .changes * m .width)) 20 0 (doneFor m (task .changes))
 
 unfoldable pub allAnswer : Method → (netlist list buffer : List ℕ) → Judged
 allAnswer m n l buffer = allFrom m (listChecked n l) (length buffer)

@@ -1,13 +1,14 @@
-// Every change of a list in one call: the card and its list are checked once, then all changes are judged.
+// Every change of a list in one call: the card and its list are checked and decoded once, then all changes are judged.
 ghost use mathlib.Core.Path.{_≡_};
-ghost use mathlib.Core.List.{_++_};
-ghost use lib.ListN.{length, drop};
-ghost use Rattle.kung.specs.Tables.{gateTable};
-ghost use Rattle.forward.specs.Lent.{Judgeable};
-ghost use Rattle.batch.specs.Batch.{coreBytes, coreSum, fullOf, forwardOf, coreOf, Answers};
-ghost use Rattle.batch.specs.Lent.{AllOf, Room, Judges, methodOf, widthFor};
+ghost use Prim.Native.Nat.{_≤_};
+ghost use lib.ListN.{length};
+ghost use Rattle.changes.specs.Lent.{signalsOf};
+ghost use Rattle.core.specs.Lent.{SearchRoom};
+ghost use Rattle.batch.specs.Batch.{fullOf, forwardOf, coreOf, Answers};
+ghost use Rattle.batch.specs.Lent.{AllOf, CellRoom, Judges, methodOf, widthFor};
 use changes::Listed;
-use visit::Counts;
+use changes::Task;
+use netlist::Shape;
 
 // The answer of a method: the number of changes, the bytes of each and two sums over all changes; or a refusal.
 pub enum Judged {
@@ -20,177 +21,119 @@ pub enum Judged {
     Refused(u8, usize),
 }
 
-// Full simulation of each change, without a check.
+// Full simulation of each change. Of the netlist only its rows are read: it says what they decode.
 fn full_rows(
     netlist: &[u8],
     list: &[u8],
-    inputs: usize,
-    gates: usize,
-    outputs: usize,
-    entries: usize,
-    width: usize,
-    changes: usize,
+    task: Task,
+    rows: &[u16],
+    hot: &mut [u8],
     buffer: &mut [u8],
 ) -> Judged
-    requires { ⌜ AllOf (fullOf (now netlist) (now list)) (now netlist) (now list) inputs gates outputs entries width changes (length (now buffer)) ⌝ }
-    ensures { λ r. ⌜ Judges (fullOf (now (netlist .entry)) (now (list .entry))) changes (now (buffer .entry)) (now (buffer .exit)) r ⌝ }
+    requires { ⌜ AllOf (fullOf (now netlist) (now list)) (now netlist) (now list) (now rows) task (length (now buffer)) ⌝ }
+    requires { ⌜ signalsOf (task .shape) ≤ length (now hot) ⌝ }
+    ensures { λ r. ⌜ Judges (fullOf (now (netlist .entry)) (now (list .entry))) (task .changes) (now (buffer .entry)) (now (buffer .exit)) r ⌝ }
 {
     let table = tables::gate_table();
-    let signals = inputs + gates;
-    for change in 0..changes {
+    let shape = task.shape;
+    let signals = shape.inputs + shape.gates;
+    for change in 0..task.changes {
         let at = change * signals;
-        simulate::classify(
-            &table,
-            netlist,
-            list,
-            inputs,
-            gates,
-            width,
-            change,
-            &mut buffer[at..],
-        );
+        let row = &mut buffer[at..];
+        changes::fill_inputs(list, task, change, row);
+        sweep::pass(&table, rows, shape.inputs, shape.gates, hot, row);
     }
     Judged::Done {
-        changes: changes,
+        changes: task.changes,
         width: signals,
         first: 0,
         second: 0,
     }
 }
 
-// The forward method on each change, without a check.
+// The forward method on each change.
 fn forward_rows(
     netlist: &[u8],
     list: &[u8],
-    inputs: usize,
-    gates: usize,
-    outputs: usize,
-    entries: usize,
-    width: usize,
-    changes: usize,
+    task: Task,
+    rows: &[u16],
+    known: &mut [u8],
+    cells: &mut [u8],
     buffer: &mut [u8],
 ) -> Judged
-    requires { ⌜ AllOf (forwardOf (now netlist) (now list)) (now netlist) (now list) inputs gates outputs entries width changes (length (now buffer)) ⌝ }
-    ensures { λ r. ⌜ Judges (forwardOf (now (netlist .entry)) (now (list .entry))) changes (now (buffer .entry)) (now (buffer .exit)) r ⌝ }
+    requires { ⌜ AllOf (forwardOf (now netlist) (now list)) (now netlist) (now list) (now rows) task (length (now buffer)) ⌝ }
+    requires { ⌜ (signalsOf (task .shape) ≤ length (now known)) × (length (now known) ≤ length (now cells)) ⌝ }
+    ensures { λ r. ⌜ Judges (forwardOf (now (netlist .entry)) (now (list .entry))) (task .changes) (now (buffer .entry)) (now (buffer .exit)) r ⌝ }
 {
     let table = tables::gate_table();
     let images = tables::images();
-    let wanteds = tables::wanted_table();
-    let mut places: [u16; 2048] = [0; 2048];
-    netlist::fill_places(netlist, &mut places, gates);
+    let lookup = tables::lookup();
+    let shape = task.shape;
+    let signals = shape.inputs + shape.gates;
+    let outputs = shape.outputs;
     let mut touched: usize = 0;
     let mut visited: usize = 0;
-    for change in 0..changes {
+    for change in 0..task.changes {
         let at = change * outputs;
-        let counts = forward::judge(
-            &table,
+        changes::fill_inputs(list, task, change, known);
+        touched += forward::spread(&table, rows, shape.inputs, shape.gates, known, cells);
+        let searched = core::search_outputs(
             &images,
-            &wanteds,
-            netlist,
-            list,
-            &places,
-            inputs,
-            gates,
-            outputs,
-            entries,
-            width,
-            change,
+            &lookup,
+            rows,
+            shape,
+            &known[..signals],
+            cells,
             &mut buffer[at..],
         );
-        touched += counts.touched;
-        visited += counts.visited;
+        visited += searched.gates;
     }
     Judged::Done {
-        changes: changes,
+        changes: task.changes,
         width: outputs,
         first: touched,
         second: visited,
     }
 }
 
-// CORE for all outputs of a change, in lent room: a change writes only the inputs' bytes of `known`.
-fn core_row(
-    images: &[u8; 4096],
-    wanteds: &[u8; 576],
-    netlist: &[u8],
-    list: &[u8],
-    places: &[u16],
-    known: &mut [u8],
-    cells: &mut [u8],
-    inputs: usize,
-    gates: usize,
-    outputs: usize,
-    entries: usize,
-    width: usize,
-    change: usize,
-    buffer: &mut [u8],
-) -> Counts
-    requires { ⌜ Judgeable gateTable (now images) (now wanteds) (now netlist) (now list) (now places) inputs gates outputs entries width change (length (now buffer)) ⌝ }
-    requires { ⌜ Room (now known) (now cells) inputs ⌝ }
-    ensures { λ r. ⌜ (r .gates ≡ coreSum (λ a. a .gates) (now (netlist .entry)) (now (list .entry)) change) × (r .pins ≡ coreSum (λ a. a .pins) (now (netlist .entry)) (now (list .entry)) change) × (now (buffer .exit) ≡ coreBytes (now (netlist .entry)) (now (list .entry)) change ++ drop outputs (now (buffer .entry))) × (drop inputs (now (known .exit)) ≡ drop inputs (now (known .entry))) ⌝ }
-{
-    changes::fill_inputs(list, width, change, inputs, known);
-    let signals = inputs + gates;
-    core::search_outputs(
-        images,
-        wanteds,
-        netlist,
-        places,
-        &known[..signals],
-        cells,
-        inputs,
-        outputs,
-        entries,
-        buffer,
-    )
-}
-
-// CORE on each change, without a check.
+// CORE on each change, which writes only the inputs' bytes of `known`.
 fn core_rows(
     netlist: &[u8],
     list: &[u8],
-    inputs: usize,
-    gates: usize,
-    outputs: usize,
-    entries: usize,
-    width: usize,
-    changes: usize,
+    task: Task,
+    rows: &[u16],
+    known: &mut [u8],
+    cells: &mut [u8],
     buffer: &mut [u8],
 ) -> Judged
-    requires { ⌜ AllOf (coreOf (now netlist) (now list)) (now netlist) (now list) inputs gates outputs entries width changes (length (now buffer)) ⌝ }
-    ensures { λ r. ⌜ Judges (coreOf (now (netlist .entry)) (now (list .entry))) changes (now (buffer .entry)) (now (buffer .exit)) r ⌝ }
+    requires { ⌜ AllOf (coreOf (now netlist) (now list)) (now netlist) (now list) (now rows) task (length (now buffer)) ⌝ }
+    requires { ⌜ CellRoom (now known) (now cells) (task .shape) ⌝ }
+    ensures { λ r. ⌜ Judges (coreOf (now (netlist .entry)) (now (list .entry))) (task .changes) (now (buffer .entry)) (now (buffer .exit)) r ⌝ }
 {
     let images = tables::images();
-    let wanteds = tables::wanted_table();
-    let mut places: [u16; 2048] = [0; 2048];
-    netlist::fill_places(netlist, &mut places, gates);
-    let mut known = [8u8; 2304];
-    let mut cells = [0u8; 2304];
+    let lookup = tables::lookup();
+    let shape = task.shape;
+    let signals = shape.inputs + shape.gates;
+    let outputs = shape.outputs;
     let mut visited: usize = 0;
     let mut taken: usize = 0;
-    for change in 0..changes {
+    for change in 0..task.changes {
         let at = change * outputs;
-        let counts = core_row(
+        changes::fill_inputs(list, task, change, known);
+        let searched = core::search_outputs(
             &images,
-            &wanteds,
-            netlist,
-            list,
-            &places,
-            &mut known,
-            &mut cells,
-            inputs,
-            gates,
-            outputs,
-            entries,
-            width,
-            change,
+            &lookup,
+            rows,
+            shape,
+            &known[..signals],
+            cells,
             &mut buffer[at..],
         );
-        visited += counts.gates;
-        taken += counts.pins;
+        visited += searched.gates;
+        taken += searched.pins;
     }
     Judged::Done {
-        changes: changes,
+        changes: task.changes,
         width: outputs,
         first: visited,
         second: taken,
@@ -205,103 +148,92 @@ enum Analysis {
 }
 
 // The bytes of a change.
-fn row_width(analysis: Analysis, signals: usize, outputs: usize) -> usize
-    ensures { λ r. ⌜ r ≡ widthFor analysis signals outputs ⌝ }
+fn row_width(analysis: Analysis, shape: Shape) -> usize
+    requires { ⌜ (shape .inputs ≤ 256) × (shape .gates ≤ 2048) ⌝ }
+    ensures { λ r. ⌜ r ≡ widthFor analysis shape ⌝ }
 {
     match analysis {
-        Analysis::Full => signals,
-        Analysis::Forward => outputs,
-        Analysis::Core => outputs,
+        Analysis::Full => shape.inputs + shape.gates,
+        Analysis::Forward => shape.outputs,
+        Analysis::Core => shape.outputs,
     }
 }
 
-// An analysis of each change of an accepted list.
-fn judge_rows(
+// An analysis of each change of a list in lent room: the card and the list are checked once.
+fn judge_in(
     analysis: Analysis,
     netlist: &[u8],
     list: &[u8],
-    inputs: usize,
-    gates: usize,
-    outputs: usize,
-    entries: usize,
-    width: usize,
-    changes: usize,
     buffer: &mut [u8],
+    rows: &mut [u16],
+    known: &mut [u8],
+    cells: &mut [u8],
 ) -> Judged
-    requires { ⌜ AllOf (methodOf analysis (now netlist) (now list)) (now netlist) (now list) inputs gates outputs entries width changes (length (now buffer)) ⌝ }
-    ensures { λ r. ⌜ Judges (methodOf analysis (now (netlist .entry)) (now (list .entry))) changes (now (buffer .entry)) (now (buffer .exit)) r ⌝ }
+    requires { ⌜ SearchRoom (now netlist) (now rows) (now known) (now cells) ⌝ }
+    ensures { λ r. ⌜ Answers (methodOf analysis (now (netlist .entry)) (now (list .entry))) (now (netlist .entry)) (now (list .entry)) (now (buffer .entry)) (now (buffer .exit)) r ⌝ }
 {
-    match analysis {
-        Analysis::Full => full_rows(
-            netlist,
-            list,
-            inputs,
-            gates,
-            outputs,
-            entries,
-            width,
-            changes,
-            buffer,
-        ),
-        Analysis::Forward => forward_rows(
-            netlist,
-            list,
-            inputs,
-            gates,
-            outputs,
-            entries,
-            width,
-            changes,
-            buffer,
-        ),
-        Analysis::Core => core_rows(
-            netlist,
-            list,
-            inputs,
-            gates,
-            outputs,
-            entries,
-            width,
-            changes,
-            buffer,
-        ),
+    match changes::decode(netlist, list, rows) {
+        Listed::Refused(number, place) => Judged::Refused(number, place),
+        Listed::Accepted(task) => {
+            if buffer.len() < task.changes * row_width(analysis, task.shape) {
+                return Judged::Refused(20, 0);
+            }
+            match analysis {
+                Analysis::Full => full_rows(netlist, list, task, rows, cells, buffer),
+                Analysis::Forward => {
+                    forward_rows(netlist, list, task, rows, known, cells, buffer)
+                }
+                Analysis::Core => core_rows(netlist, list, task, rows, known, cells, buffer),
+            }
+        }
     }
 }
 
-// An analysis of each change of a list: the card and the list are checked once.
+// The same, in room by the card's size.
 fn judge(analysis: Analysis, netlist: &[u8], list: &[u8], buffer: &mut [u8]) -> Judged
     ensures { λ r. ⌜ Answers (methodOf analysis (now (netlist .entry)) (now (list .entry))) (now (netlist .entry)) (now (list .entry)) (now (buffer .entry)) (now (buffer .exit)) r ⌝ }
 {
-    let listed = changes::check(netlist, list);
-    match listed {
-        Listed::Refused(number, place) => Judged::Refused(number, place),
-        Listed::Accepted {
-            inputs,
-            gates,
-            outputs,
-            pins: _,
-            entries,
-            changes,
-            width,
-        } => {
-            let row = row_width(analysis, inputs + gates, outputs);
-            if buffer.len() < changes * row {
-                return Judged::Refused(20, 0);
-            }
-            judge_rows(
-                analysis,
-                netlist,
-                list,
-                inputs,
-                gates,
-                outputs,
-                entries,
-                width,
-                changes,
-                buffer,
-            )
-        }
+    let signals = netlist::signals_in(netlist);
+    if signals <= 64 {
+        let mut rows = [0u16; 640];
+        let mut known = [8u8; 64];
+        let mut cells = [0u8; 64];
+        return judge_in(
+            analysis,
+            netlist,
+            list,
+            buffer,
+            &mut rows,
+            &mut known,
+            &mut cells,
+        );
     }
+    if signals <= 512 {
+        let mut rows = [0u16; 4672];
+        let mut known = [8u8; 512];
+        let mut cells = [0u8; 512];
+        return judge_in(
+            analysis,
+            netlist,
+            list,
+            buffer,
+            &mut rows,
+            &mut known,
+            &mut cells,
+        );
+    }
+    let mut rows = [0u16; 20800];
+    let mut known = [8u8; 2304];
+    let mut cells = [0u8; 2304];
+    judge_in(
+        analysis,
+        netlist,
+        list,
+        buffer,
+        &mut rows,
+        &mut known,
+        &mut cells,
+    )
 }
 
 // The class of each signal in each change of a list.

@@ -2,3 +2,4 @@ pub mod Laws
 pub mod Refusals
 pub mod Accepted
 pub mod Proper
+pub mod Rooms

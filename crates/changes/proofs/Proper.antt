@@ -13,9 +13,10 @@ use Rattle.words.proofs.Laws.{within}
 use Rattle.words.proofs.Refusal.{pass}
 use Rattle.netlist.specs.declared.Checked.{Checked}
 use Rattle.netlist.specs.declared.Checked.the-variants as netlist
-use Rattle.netlist.specs.Netlist.{inputsOf, accepted}
+use Rattle.netlist.specs.Netlist.{inputsOf, shapeOf, accepted}
 use Rattle.netlist.specs.Proper.{Condition, when, firstMet, conditions}
 use Rattle.netlist.proofs.Proper.{proper→accepted, accepted→proper, Unmet, first-append, none-met, first-refusal}
+use Rattle.changes.specs.declared.Task.{Task}
 use Rattle.changes.specs.declared.Listed.{Listed}
 use Rattle.changes.specs.declared.Listed.the-variants.{Accepted, Refused}
 use Rattle.changes.specs.Changes.{changesOf, widthOf, sizeOf, Vector, first, second, vectorAt}
@@ -42,7 +43,7 @@ spares-proper (suc n) inputs l at next h =
     ∙ spares-proper n inputs l _ next (λ t j. rw (next-change at t (sizeOf (widthOf inputs))) at (h (suc t) (omega arith)))
 
 pub proper→listed : (n l : List ℕ) → ProperList n l → listChecked n l ≡ listAccepted n l
-unfolding listChecked against listAccepted accepted
+unfolding listChecked against listAccepted accepted shapeOf
 proper→listed n l p =
     ap (against 1 1000 n l) (proper→accepted n (p .netlist))
     ∙ list-pass 1 1000 (inputsOf n) (tieOf n) l _ (p .long, p .mark, p .version, p .tied) (changesOf l) refl (p .changes-high) (p .whole)
@@ -67,7 +68,7 @@ against-first n l (when true number place ∷ rest) answer = refl
 against-first n l (when false number place ∷ rest) answer = against-first n l rest answer
 
 accepted-first : (n l : List ℕ) → against 1 1000 n l (accepted n) ≡ firstMet Refused (ownConditions (inputsOf n) (tieOf n) l) (listAccepted n l)
-unfolding against accepted listAccepted
+unfolding against accepted shapeOf listAccepted
 accepted-first n l = own-first (inputsOf n) (tieOf n) l _
 
 list-first : (n l : List ℕ)
@@ -92,9 +93,9 @@ spares-none (suc n) inputs l at h zero j =
 spares-none (suc n) inputs l at h (suc t) j =
     rw (next-change at t (sizeOf (widthOf inputs))) (spares-none n inputs l _ (h .1 .1) t (omega arith))
 
-pub listed→proper : {i g o p e t w : ℕ} (n l : List ℕ) → listChecked n l ≡ Accepted i g o p e t w → ProperList n l
+pub listed→proper : {task : Task} (n l : List ℕ) → listChecked n l ≡ Accepted task → ProperList n l
 unfolding ownConditions Unmet
-listed→proper {i} {g} {o} {p} {e} {t} {w} n l h =
+listed→proper {task} n l h =
     let netlist = none-met Refused (conditions n) _ _ other (sym (list-first n l) ∙ h) in
     let own = none-met Refused (ownConditions (inputsOf n) (tieOf n) l) _ _ other (netlist .1) .0 in
     record {
@@ -108,7 +109,7 @@ listed→proper {i} {g} {o} {p} {e} {t} {w} n l h =
       spare = λ t j. of t (spares-none (changesOf l) (inputsOf n) l 11 (own .1 .1 .1 .1 .1 .1) t j);
     }
   where
-    other : (number place : ℕ) → Refused number place ≡ Accepted i g o p e t w → ⊥
+    other : (number place : ℕ) → Refused number place ≡ Accepted task → ⊥
     other number place d = let z : _≡_ {A = ℕ} 0 1 = cc in absurd (omega arith)
 
     of : (t : ℕ) → NoSpare (inputsOf n) l (11 + t * sizeOf (widthOf (inputsOf n))) → (which : Vector)

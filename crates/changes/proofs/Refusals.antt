@@ -1,7 +1,7 @@
 -- The chains of refusals, step by step. Assumes nothing.
-use Prim.Native.Nat.{ℕ, suc, _+_, _-_, _*_, _/_, _^_, _≤_, _<_}
+use Prim.Native.Nat.{ℕ, zero, suc, _+_, _-_, _*_, _/_, _^_, _≤_, _<_}
 use native.Mathlib.Omega.{arith}
-use mathlib.Core.Path.{_≡_, _∙_, ap}
+use mathlib.Core.Path.{_≡_, refl, _∙_, ap}
 use mathlib.Core.Bool.{Bool, true, false, not}
 use mathlib.Core.List.{List}
 use borrow.Author.Tests.{lt-ltb, le-ltb, eq-eqb, ne-eqb}
@@ -10,6 +10,7 @@ use lib.ListN.{length}
 use Rattle.words.specs.Words.{byteAt, wordAt, longAt, marked, outside, tieOf}
 use Rattle.words.proofs.Laws.{outside-above, inside}
 use Rattle.netlist.specs.Netlist.{checked}
+use Rattle.netlist.specs.declared.Shape.{Shape}
 use Rattle.netlist.specs.declared.Checked.the-variants as netlist
 use Rattle.words.specs.Refusal.{refuse}
 use Rattle.words.proofs.Refusal.{stop, pass}
@@ -38,6 +39,21 @@ spares-split n inputs l at next t h = let e : n - t ≡ suc (n - (t + 1)) = omeg
 pub spares-end : (n inputs : ℕ) (l : List ℕ) (at : ℕ) (next : Listed) (t : ℕ) → n ≤ t → sparesFrom (n - t) inputs l at next ≡ next
 unfolding sparesFrom
 spares-end n inputs l at next t h = let e : n - t ≡ 0 = omega arith in rw e
+
+-- where a vector's last byte has eight inputs there is nothing to refuse
+spare-eight : (inputs : ℕ) (l : List ℕ) (at : ℕ) (next : Listed) → lastInputs inputs ≡ 8 → byteAt l (lastPlace inputs at) < 256 → spareAt inputs l at next ≡ next
+unfolding spareAt spareBits
+spare-eight inputs l at next e low =
+    let z : byteAt l (lastPlace inputs at) / 256 ≡ 0 = omega arith in
+    pass _ _ _ _ _ (rw e (le-ltb 0 (byteAt l (lastPlace inputs at) / 2 ^ 8) (omega (arith, z))))
+
+pub spares-eight : (n inputs : ℕ) (l : List ℕ) (at : ℕ) (next : Listed) → lastInputs inputs ≡ 8 → ((at : ℕ) → byteAt l at < 256)
+    → sparesFrom n inputs l at next ≡ next
+unfolding sparesFrom
+spares-eight zero inputs l at next e low = refl
+spares-eight (suc n) inputs l at next e low =
+    spare-eight inputs l at _ e (low _) ∙ spare-eight inputs l (at + widthOf inputs) _ e (low _)
+    ∙ spares-eight n inputs l (at + sizeOf (widthOf inputs)) next e low
 
 -- the first eleven bytes are there, and the mark, the version and the tie are right
 abbrev pub Opened : (version tie : ℕ) → List ℕ → Type 0
@@ -91,8 +107,7 @@ module _ (n l : List ℕ) where
   unfolding listChecked against
   list-refused number place e = rw e
 
-  pub list-accepted : (inputs gates outputs pins entries tie changes : ℕ) → checked n ≡ netlist.Accepted inputs gates outputs pins entries
-      → tie ≡ tieOf n → changes ≡ changesOf l
-      → listChecked n l ≡ afterNetlist 1 1000 inputs tie l (Accepted inputs gates outputs pins entries changes (widthOf inputs))
+  pub list-accepted : (shape : Shape) (tie changes : ℕ) → checked n ≡ netlist.Accepted shape → tie ≡ tieOf n → changes ≡ changesOf l
+      → listChecked n l ≡ afterNetlist 1 1000 (shape .inputs) tie l (Accepted (record { shape = shape; changes = changes; width = widthOf (shape .inputs) }))
   unfolding listChecked against
-  list-accepted inputs gates outputs pins entries tie changes e t d = rw (e, t, d)
+  list-accepted shape tie changes e t d = rw (e, t, d)

@@ -3,3 +3,4 @@ pub mod Refusals
 pub mod Formed
 pub mod Proper
 pub mod Written
+pub mod Lent

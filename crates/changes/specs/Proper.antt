@@ -8,12 +8,12 @@ use mathlib.Core.List.{List, [], _∷_, _++_}
 use lib.Dec.{eqb, ltb}
 use lib.ListN.{length}
 use Rattle.words.specs.Words.{byteAt, wordAt, longAt, marked, outside, tieOf}
-use Rattle.netlist.specs.Netlist.{inputsOf, gatesOf, outputsOf, pinTotal, entriesAt}
+use Rattle.netlist.specs.Netlist.{inputsOf, shapeOf}
 use Rattle.netlist.specs.Proper.{Proper, Condition, when, conditions}
 use Rattle.changes.specs.declared.Listed.{Listed}
 use Rattle.changes.specs.declared.Listed.the-variants.{Accepted}
 use Rattle.changes.specs.Changes.{changesOf, widthOf, sizeOf, Vector, vectorAt}
-use Rattle.changes.specs.Refusals.{lastPlace, spareBits}
+use Rattle.changes.specs.Refusals.{lastPlace, spareBits, taskOf}
 
 -- the bits that the vector at a place has beside its inputs'
 abbrev pub sparesAt : (inputs : ℕ) → List ℕ → (at : ℕ) → ℕ
@@ -32,7 +32,7 @@ pub record ProperList (n l : List ℕ) : Type 0 where
   pub spare : (t : ℕ) → t < changesOf l → (which : Vector) → sparesAt (inputsOf n) l (vectorAt (widthOf (inputsOf n)) t which) ≡ 0
 
 unfoldable pub listAccepted : (netlist list : List ℕ) → Listed
-listAccepted n l = Accepted (inputsOf n) (gatesOf n) (outputsOf n) (pinTotal n) (entriesAt n) (changesOf l) (widthOf (inputsOf n))
+listAccepted n l = Accepted (taskOf (shapeOf n) l)
 
 -- "first byte with a spare bit 17 (it)": of the vector at a place, and of the n changes from a place on
 abbrev pub spareCondition : (inputs : ℕ) → List ℕ → (at : ℕ) → Condition

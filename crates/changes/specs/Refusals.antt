@@ -8,7 +8,9 @@ use Rattle.words.specs.Words.{byteAt, wordAt, longAt, marked, outside, tieOf}
 use Rattle.words.specs.Refusal.{refuse}
 use Rattle.netlist.specs.Netlist.{checked}
 use Rattle.netlist.specs.declared.Checked.{Checked}
+use Rattle.netlist.specs.declared.Shape.{Shape}
 use Rattle.netlist.specs.declared.Checked.the-variants as netlist
+use Rattle.changes.specs.declared.Task.{Task}
 use Rattle.changes.specs.declared.Listed.{Listed}
 use Rattle.changes.specs.declared.Listed.the-variants.{Accepted, Refused}
 use Rattle.changes.specs.Changes.{changesOf, widthOf, sizeOf}
@@ -49,11 +51,14 @@ afterNetlist version most inputs tie l next =
     (sparesFrom (changesOf l) inputs l 11
     next))))))
 
+-- what an accepted netlist and list give together
+abbrev pub taskOf : Shape → (list : List ℕ) → Task
+taskOf shape l = record { shape = shape; changes = changesOf l; width = widthOf (shape .inputs) }
+
 -- the list against what the check of its netlist answered
 unfoldable pub against : (version most : ℕ) → (netlist list : List ℕ) → Checked → Listed
 against version most n l (netlist.Refused number place) = Refused number place
-against version most n l (netlist.Accepted inputs gates outputs pins entries) =
-    afterNetlist version most inputs (tieOf n) l (Accepted inputs gates outputs pins entries (changesOf l) (widthOf inputs))
+against version most n l (netlist.Accepted shape) = afterNetlist version most (shape .inputs) (tieOf n) l (Accepted (taskOf shape l))
 
 -- the check of document 01
 unfoldable pub listChecked : (netlist list : List ℕ) → Listed

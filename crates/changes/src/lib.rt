@@ -4,26 +4,26 @@ ghost use mathlib.Core.List.{_++_};
 ghost use Prim.Native.Nat.{_+_, _*_, _/_, _^_, _≤_, _<_};
 ghost use lib.ListN.{length, drop};
 ghost use Rattle.words.specs.Words.{byteAt};
+ghost use Rattle.netlist.specs.Decoded.{decoded};
 ghost use Rattle.changes.specs.Changes.{widthOf, sizeOf};
 ghost use Rattle.changes.specs.Written.{inputCodes, codeIn, written};
 ghost use Rattle.changes.specs.Refusals.{sparesFrom, afterNetlist, listChecked};
 use netlist::Checked;
+use netlist::Shape;
 use words::byte_at;
 use words::long_at;
 use words::word_at;
 
-// The answer of a check: the netlist's counts, pins and place of the output entries, the number of changes and the bytes of a vector, or
-// the number and place of a refusal.
+// What an accepted netlist and list give together: the netlist's shape, the number of changes and the bytes of a vector.
+pub struct Task {
+    pub shape: Shape,
+    pub changes: usize,
+    pub width: usize,
+}
+
+// The answer of a check, or the number and place of a refusal.
 pub enum Listed {
-    Accepted {
-        inputs: usize,
-        gates: usize,
-        outputs: usize,
-        pins: usize,
-        entries: usize,
-        changes: usize,
-        width: usize,
-    },
+    Accepted(Task),
     Refused(u8, usize),
 }
 
@@ -43,6 +43,9 @@ fn check_spares(list: &[u8], inputs: usize, changes: usize, next: Listed) -> Lis
     let width = (inputs + 7) / 8;
     // the inputs in a vector's last byte
     let used = inputs + 8 - 8 * width;
+    if used == 8 {
+        return next;
+    }
     let mut at: usize = 11;
     for t in 0..changes {
         let first = at + width - 1;
@@ -86,35 +89,32 @@ fn check_list(list: &[u8], inputs: usize, tie: u32, next: Listed) -> Listed
     check_spares(list, inputs, changes, next)
 }
 
+// The check of a change list against its netlist, whose rows are kept in the lent numbers.
+pub fn decode(netlist: &[u8], list: &[u8], rows: &mut [u16]) -> Listed
+    ensures { λ r. ⌜ r ≡ listChecked (now (netlist .entry)) (now (list .entry)) ⌝ }
+    ensures { λ r. ⌜ now (rows .exit) ≡ decoded (now (netlist .entry)) (now (rows .entry)) ⌝ }
+{
+    match netlist::decode(netlist, rows) {
+        Checked::Refused(number, place) => Listed::Refused(number, place),
+        Checked::Accepted(shape) => {
+            let tie = words::tie(netlist);
+            let inputs = shape.inputs;
+            let next = Listed::Accepted(Task {
+                shape,
+                changes: word_at(list, 9) as usize,
+                width: (inputs + 7) / 8,
+            });
+            check_list(list, inputs, tie, next)
+        }
+    }
+}
+
 // The check of a change list against its netlist.
 pub fn check(netlist: &[u8], list: &[u8]) -> Listed
     ensures { λ r. ⌜ r ≡ listChecked (now (netlist .entry)) (now (list .entry)) ⌝ }
 {
-    let checked = netlist::check(netlist);
-    match checked {
-        Checked::Refused(number, place) => Listed::Refused(number, place),
-        Checked::Accepted {
-            inputs,
-            gates,
-            outputs,
-            pins,
-            entries,
-        } => {
-            let tie = words::tie(netlist);
-            let changes = word_at(list, 9) as usize;
-            let width = (inputs + 7) / 8;
-            let next = Listed::Accepted {
-                inputs,
-                gates,
-                outputs,
-                pins,
-                entries,
-                changes,
-                width,
-            };
-            check_list(list, inputs, tie, next)
-        }
-    }
+    let mut none = [0u16; 0];
+    decode(netlist, list, &mut none)
 }
 
 // The class of an input by bit k of its two bytes.
@@ -138,10 +138,13 @@ fn fill_byte(first: u8, second: u8, count: usize, at: usize, buffer: &mut [u8])
 }
 
 // Writes the classes of the inputs in change t into the first bytes of the buffer.
-pub fn fill_inputs(list: &[u8], width: usize, t: usize, inputs: usize, buffer: &mut [u8])
-    requires { ⌜ (width ≤ 32) × (t ≤ 1000) × (inputs ≤ length (now buffer)) ⌝ }
-    ensures { λ r. ⌜ now (buffer .exit) ≡ inputCodes (now (list .entry)) width t inputs ++ drop inputs (now (buffer .entry)) ⌝ }
+pub fn fill_inputs(list: &[u8], task: Task, t: usize, buffer: &mut [u8])
+    requires { ⌜ (task .width ≤ 32) × (t ≤ 1000) × (task .shape .inputs ≤ length (now buffer)) ⌝ }
+    ensures { λ r. ⌜ now (buffer .exit) ≡ inputCodes (now (list .entry)) (task .width) t (task .shape .inputs) ++ drop (task .shape .inputs) (now (buffer .entry)) ⌝ }
 {
+    let shape = task.shape;
+    let inputs = shape.inputs;
+    let width = task.width;
     let first = 11 + t * (2 * width);
     let second = first + width;
     let whole = inputs / 8;

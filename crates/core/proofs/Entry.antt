@@ -1,34 +1,37 @@
 -- CORE for an output of a change: what the search is lent, and what is answered in each case. Assumes nothing.
-use Prim.Native.Nat.{ℕ, zero, suc, _+_, _-_, _≤_, _<_}
+use Prim.Native.Nat.{ℕ, zero, suc, _+_, _-_, _*_, _≤_, _<_}
 use native.Mathlib.Omega.{arith}
 use mathlib.Core.Path.{_≡_, refl, sym, _∙_, ap, ap₂}
-use mathlib.Core.List.{List, [], _∷_, _++_}
-use borrow.Author.Tests.{le-leb, lt-leb, le-ltb}
-use lib.ListN.{length, take, drop, replicate, length-append, length-replicate}
+use mathlib.Core.List.{List, _∷_, _++_}
+use borrow.Author.Tests.{le-leb, lt-leb}
+use lib.ListN.{length, take, drop, replicate}
 use lib.Seq.{take-append-add}
-use Rattle.kung.specs.Class.{Class, code}
 use Rattle.kung.specs.Sets.{cleanSet, setOf}
-use Rattle.kung.specs.Tables.{tab}
+use Rattle.kung.specs.Tables.{imageTable}
+use Rattle.kung.specs.Lookup.{lookupTable}
 use Rattle.words.specs.Refusal.{refuse}
-use Rattle.netlist.specs.Netlist.{inputsOf, gatesOf, outputAt, cardOf}
+use Rattle.rows.specs.Rows.{outputIn}
+use Rattle.netlist.specs.Netlist.{inputsOf, gatesOf, outputAt}
 use Rattle.netlist.specs.Formed.{Formed}
 use Rattle.netlist.proofs.Accepted.{formed}
+use Rattle.changes.specs.declared.Task.{Task}
 use Rattle.changes.specs.declared.Listed.the-variants as list
 use Rattle.changes.specs.Changes.{widthOf, inputClassAt, sourcesOf}
+use Rattle.changes.specs.Formed.{ListFormed}
+use Rattle.changes.specs.Lent.{Accepts, signalsOf}
 use Rattle.changes.specs.Written.{inputCodes, codeAt}
 use Rattle.changes.specs.Refusals.{listChecked}
 use Rattle.changes.proofs.Laws.{tab-length}
 use Rattle.changes.proofs.Accepted.{listed}
 use Rattle.search.specs.Search.{clean, hazardous, Verdict, Answer, search}
-use Rattle.core.specs.declared.Cored.{Cored}
-use Rattle.core.specs.declared.Cored.the-variants.{Clean, Hazardous, Refused}
+use Rattle.core.specs.declared.Cored.the-variants.{Refused}
 use Rattle.visit.specs.Source.{sourceFrom}
 use Rattle.visit.specs.Found.{foundOf}
-use Rattle.visit.specs.Lent.{inputsKnown}
+use Rattle.visit.specs.Lent.{inputsKnown, SearchReady}
 use Rattle.core.specs.Core.{searchOf, guarded, coreFrom, coreAnswer}
 use Rattle.core.specs.Codes.{guardedFound}
-use Rattle.core.specs.Lent.{Searchable}
-use Rattle.core.proofs.Cards.{sources-known}
+use Rattle.core.specs.Lent.{OutputsReady}
+use Rattle.core.proofs.Cards.{sources-known, known-length, inputs-only}
 
 drop-replicate : (i m a : ℕ) → drop i (replicate m a) ≡ replicate (m - i) a
 drop-replicate zero m a = let e : m - 0 ≡ m = omega arith in rw e
@@ -40,26 +43,74 @@ take-replicate zero m a h = refl
 take-replicate (suc g) zero a h = absurd (omega arith)
 take-replicate (suc g) (suc m) a h = ap (λ l. a ∷ l) (take-replicate g m a (omega arith))
 
--- the bytes that the search is lent: the inputs' classes are known, and no gate
-pub known-is : {i g o p e : ℕ} (n l : List ℕ) (w t : ℕ) → Formed n i g o p e → w ≡ widthOf i → (m : ℕ) → i + g ≤ m → (filled : List ℕ)
-    → filled ≡ inputCodes l w t i ++ drop i (replicate m 8) → take (i + g) filled ≡ inputsKnown n (inputClassAt l (widthOf (inputsOf n)) t)
-known-is {i} {g} n l w t f wide m room filled e =
-    let codes = inputCodes l w t i in
-    ap₂ take (ap (λ k. k + g) (sym (tab-length (codeAt l w t) 0 i))) e
-    ∙ take-append-add codes (drop i (replicate m 8)) g
-    ∙ ap (λ x. codes ++ x) (ap (take g) (drop-replicate i m 8) ∙ take-replicate g (m - i) 8 (omega arith))
-    ∙ (λ k. inputCodes l ((wide ∙ ap widthOf (f .inputs-are)) k) t (f .inputs-are k) ++ replicate (f .gates-are k) 8)
+-- a change of an accepted list
+module _ (n l rows : List ℕ) (task : Task) (a : Accepts n l rows task) (t : ℕ) where
+  pub list-formed : ListFormed n l task
+  list-formed = listed n l (a .accepted)
 
--- and it has a byte for each signal
-pub known-length : {i g o p e : ℕ} (n : List ℕ) → Formed n i g o p e → (v : ℕ → Class) → length (inputsKnown n v) ≡ i + g
-known-length n f v =
-    length-append (tab (λ i. code (v i)) 0 (inputsOf n)) (replicate (gatesOf n) 8)
-    ∙ omega (arith, tab-length (λ i. code (v i)) 0 (inputsOf n), length-replicate {A = ℕ} (gatesOf n) 8, f .inputs-are, f .gates-are)
+  pub card-formed : Formed n (task .shape)
+  card-formed = formed n (list-formed .netlist-accepted)
 
-pub search-is : (n l : List ℕ) (t w s : ℕ)
-    → search (sourceFrom n (inputsKnown n (inputClassAt l (widthOf (inputsOf n)) t))) w s ≡ search (sourcesOf n l t) w s
-unfolding sourcesOf
-search-is n l t w s = ap (λ src. search src w s) (sources-known n (inputClassAt l (widthOf (inputsOf n)) t))
+  abbrev known : List ℕ
+  known = inputsKnown (inputsOf n) (gatesOf n) (inputClassAt l (widthOf (inputsOf n)) t)
+
+  -- the bytes that a search is lent: the inputs' classes are known, and no gate
+  pub known-is : (old filled : List ℕ) → drop (task .shape .inputs) old ≡ drop (task .shape .inputs) (replicate (length old) 8) → signalsOf (task .shape) ≤ length old
+      → filled ≡ inputCodes l (task .width) t (task .shape .inputs) ++ drop (task .shape .inputs) old → take (signalsOf (task .shape)) filled ≡ known
+  known-is old filled none room e =
+      let i = task .shape .inputs in
+      let g = task .shape .gates in
+      let codes = inputCodes l (task .width) t i in
+      let f = card-formed in
+      ap₂ take (ap (λ k. k + g) (sym (tab-length (codeAt l (task .width) t) 0 i))) e
+      ∙ take-append-add codes (drop i old) g
+      ∙ ap (λ x. codes ++ x) (ap (take g) (none ∙ drop-replicate i (length old) 8) ∙ take-replicate g (length old - i) 8 (omega arith))
+      ∙ (λ k. inputCodes l ((list-formed .width-is ∙ ap widthOf (f .inputs-are)) k) t (f .inputs-are k) ++ replicate (f .gates-are k) 8)
+
+  -- a byte for each signal
+  pub known-all : length known ≡ signalsOf (task .shape)
+  known-all =
+      known-length n rows (a .decoded) (inputClassAt l (widthOf (inputsOf n)) t)
+      ∙ sym (ap₂ _+_ (card-formed .inputs-are) (card-formed .gates-are))
+
+  pub ready : {images lookup : List ℕ} → images ≡ imageTable → lookup ≡ lookupTable → (k : List ℕ) → k ≡ known → SearchReady images lookup rows k
+  ready i w k e =
+      rw e
+      (record {
+        images-are = i;
+        lookup-are = w;
+        gates-only = inputs-only n rows (a .decoded) (inputClassAt l (widthOf (inputsOf n)) t);
+        few-signals = omega (arith, known-all, card-formed .inputs-high, card-formed .gates-high);
+      })
+
+  -- the signal of an output
+  pub output-is : (o : ℕ) → o < task .shape .outputs → outputIn rows (signalsOf (task .shape)) o ≡ outputAt n o
+  output-is o h =
+      let f = card-formed in
+      ap (λ s. outputIn rows s o) (ap₂ _+_ (f .inputs-are) (f .gates-are)) ∙ a .decoded .outputs-are o (omega (arith, f .outputs-are))
+
+  pub output-below : (o : ℕ) → o < task .shape .outputs → outputIn rows (signalsOf (task .shape)) o < signalsOf (task .shape)
+  output-below o h = rw (output-is o h) (card-formed .output-below o h)
+
+  pub rows-long : 9 * signalsOf (task .shape) + task .shape .outputs ≤ length rows
+  rows-long = omega (arith, a .decoded .long, card-formed .inputs-are, card-formed .gates-are, card-formed .outputs-are)
+
+  pub outputs-ready : {images lookup : List ℕ} (k : List ℕ) → SearchReady images lookup rows k → length k ≡ signalsOf (task .shape)
+      → (room : ℕ) → task .shape .outputs ≤ room → OutputsReady images lookup rows k (task .shape) room
+  outputs-ready k r all room enough =
+      record {
+        ready = r;
+        all-known = all;
+        outputs-high = card-formed .outputs-high;
+        output-below = λ o h. omega (arith, output-below o h);
+        listed = rows-long;
+        enough = enough;
+      }
+
+  -- the search runs on the card of the definition
+  pub search-is : (k : List ℕ) → k ≡ known → (w s : ℕ) → search (sourceFrom rows k) w s ≡ search (sourcesOf n l t) w s
+  unfolding sourcesOf
+  search-is k e w s = ap (λ k. search (sourceFrom rows k) w s) e ∙ ap (λ src. search src w s) (sources-known n rows (a .decoded) (inputClassAt l (widthOf (inputsOf n)) t))
 
 pub clean-set : cleanSet ≡ 15
 unfolding setOf
@@ -79,32 +130,16 @@ module _ (n l : List ℕ) (change output : ℕ) where
   unfolding coreAnswer coreFrom refuse
   refused-list number place e = rw e
 
-  module _ {i g o p s t w : ℕ} (e : listChecked n l ≡ list.Accepted i g o p s t w) where
-    pub refused-change : t ≤ change → Refused 18 0 ≡ coreAnswer n l change output
+  module _ {task : Task} (e : listChecked n l ≡ list.Accepted task) where
+    pub refused-change : task .changes ≤ change → Refused 18 0 ≡ coreAnswer n l change output
     unfolding coreAnswer coreFrom refuse
-    refused-change late = rw (e, le-leb t change late)
+    refused-change late = rw (e, le-leb (task .changes) change late)
 
-    module _ (early : change < t) where
-      pub refused-output : o ≤ output → Refused 19 0 ≡ coreAnswer n l change output
+    module _ (early : change < task .changes) where
+      pub refused-output : task .shape .outputs ≤ output → Refused 19 0 ≡ coreAnswer n l change output
       unfolding coreAnswer coreFrom refuse
-      refused-output none = rw (e, lt-leb t change early, le-leb o output none)
+      refused-output none = rw (e, lt-leb (task .changes) change early, le-leb (task .shape .outputs) output none)
 
-      pub answers : output < o → guarded p (searchOf n l change output) ≡ coreAnswer n l change output
+      pub answers : output < task .shape .outputs → guarded (task .shape .pins) (searchOf n l change output) ≡ coreAnswer n l change output
       unfolding coreAnswer coreFrom refuse
-      answers is = rw (e, lt-leb t change early, lt-leb o output is)
-
-      -- the output's signal can be searched
-      pub searchable : output < o → Searchable n i g w change (outputAt n output)
-      searchable is =
-          let f = listed n l e in
-          let c = formed n (f .netlist-accepted) in
-          record {
-            outputs = o;
-            pins = p;
-            entries = s;
-            formed = c;
-            below = c .output-below output is;
-            width-is = f .width-is;
-            width-high = f .width-high;
-            change-high = omega (arith, f .changes-high);
-          }
+      answers is = rw (e, lt-leb (task .changes) change early, lt-leb (task .shape .outputs) output is)

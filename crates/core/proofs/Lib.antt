@@ -1,4 +1,5 @@
 pub mod Cards
 pub mod Entry
+pub mod Rooms
 pub mod Theorems
 pub mod Outputs

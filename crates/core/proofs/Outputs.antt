@@ -1,32 +1,33 @@
 -- Laws of the outputs' searches. Assumes nothing.
 use Prim.Native.Nat.{ℕ, zero, suc, _+_, _*_, _≤_, _<_}
 use native.Mathlib.Omega.{arith}
-use native.Mathlib.Nat.{zero-add, add-comm}
+use native.Mathlib.Nat.{zero-add, add-comm, le-trans}
+use native.Mathlib.Decide.{decLt}
 use native.Mathlib.Numerals.{add-one}
 use mathlib.Core.Path.{_≡_, refl, _∙_, ap, ap₂}
 use mathlib.Core.Bool.{Bool, true, false, cond}
 use mathlib.Core.List.{List, [], _∷_}
 use lib.Dec.{ltb}
-use lib.ListN.{length, set, length-replicate}
+use lib.ListN.{length, getD, set, length-replicate}
 use Rattle.kung.specs.Class.{Class}
 use Rattle.kung.specs.Sets.{setOf}
 use Rattle.kung.specs.Operation.{opOf, unit}
-use Rattle.circuit.specs.Circuit.{Source, given, gate}
-use Rattle.words.specs.Words.{wordAt}
-use Rattle.netlist.specs.Netlist.{gatesOf, countAt, placeOf, pinsBelow}
+use Rattle.circuit.specs.Circuit.{Source, given, gate, pinsOf}
+use Rattle.rows.specs.Rows.{rowPins, outputIn}
 use Rattle.changes.specs.Written.{written}
-use Rattle.changes.proofs.Laws.{written-more}
+use Rattle.changes.proofs.Laws.{written-more, tab-length}
 use Rattle.search.specs.Search as search
 use Rattle.search.specs.Search.{Answer, answerOf, search, visit, endFrom, fresh, nobody, total, gatesVisited}
-use Rattle.search.specs.Pins.{sumBelow}
-use Rattle.search.proofs.Writes.{visit-length}
+use Rattle.search.specs.Pins.{sumBelow, pinsIn}
+use Rattle.search.proofs.Writes.{visit-length, closed-all}
+use Rattle.search.proofs.Counts.{search-pins}
 use Rattle.visit.specs.Source.{sourceFrom}
 use Rattle.visit.specs.Found.{foundOf, verdictCode, cellsLeft}
 use Rattle.visit.specs.Lent.{SearchReady}
 use Rattle.visit.specs.declared.Found.{Found}
-use Rattle.core.specs.Outputs.{verdictByte, signalFrom, searchFrom, byteFrom, sumFrom, cellsFrom}
+use Rattle.visit.proofs.Sources.{source-given, source-gate}
+use Rattle.core.specs.Outputs.{verdictByte, searchFrom, byteFrom, sumFrom, cellsFrom}
 use Rattle.core.specs.Codes.{foundByte}
-use Rattle.core.proofs.Cards.{search-within}
 
 -- a search visits no more gates than it has cells
 visited-few : (cells : List ℕ) → gatesVisited cells ≤ length cells
@@ -53,50 +54,54 @@ search-few src w s = go (src s)
         )
 
 -- and takes no more than eight pins of each
-pins-few : (netlist : List ℕ) (g : ℕ) → ((k : ℕ) → k < g → countAt netlist (placeOf netlist k) ≤ 8) → pinsBelow netlist g ≤ 8 * g
-unfolding pinsBelow
-pins-few netlist zero h = omega arith
-pins-few netlist (suc g) h = omega (arith, pins-few netlist g (λ k l. h k (omega arith)), h g (omega arith))
+module _ {images lookup rows known : List ℕ} (r : SearchReady images lookup rows known) where
+  few-pins : (s : ℕ) → length (pinsOf (sourceFrom rows known s)) ≤ 8
+  unfolding rowPins
+  few-pins s = go (decLt (getD known s 0) 8)
+    where
+      go : Dec (getD known s 0 < 8) → length (pinsOf (sourceFrom rows known s)) ≤ 8
+      go (yes h) = rw (source-given rows known s h) (omega arith)
+      go (no h) = rw (source-gate rows known s (omega arith)) (rw tab-length (r .gates-only s (omega arith) .count-eight))
 
-taken-few : {images wanteds netlist places known : List ℕ} {inputs : ℕ} → SearchReady images wanteds netlist places known inputs
-    → (w s : ℕ) → (search (sourceFrom netlist known) w s) .pins ≤ 8 * 2304
-taken-few {netlist = netlist} {known = known} r w s =
-    omega (
-      arith,
-      search-within netlist known (r .indexed .gates-only) w s,
-      pins-few netlist (gatesOf netlist) (r .few-pins),
-      r .few-signals,
-    )
+  sum-few : (n : ℕ) → pinsIn (sourceFrom rows known) (λ s. true) n ≤ 8 * n
+  unfolding sumBelow
+  sum-few zero = omega arith
+  sum-few (suc n) = omega (arith, sum-few n, few-pins n)
 
-byte-code : (v : search.Verdict) → foundByte (verdictCode v) ≡ verdictByte v
+  taken-few : (w s : ℕ) → s < length known → (search (sourceFrom rows known) w s) .pins ≤ 8 * 2304
+  taken-few w s below =
+      let src = sourceFrom rows known in
+      le-trans (search-pins src (λ s. true) (closed-all src) w s (length known) refl below)
+      (omega (arith, sum-few (length known), r .few-signals))
+
+pub byte-code : (v : search.Verdict) → foundByte (verdictCode v) ≡ verdictByte v
 byte-code (search.clean k) = refl
 byte-code search.hazardous = refl
 
--- what is found of output o
-module _ (netlist known : List ℕ) (entries o s : ℕ) (at : s ≡ wordAt netlist (entries + 2 * o)) (found : Found)
-    (is : found ≡ foundOf (search (sourceFrom netlist known) 15 s)) where
-  pub found-is : found ≡ foundOf (searchFrom netlist known entries o)
+-- what is found of output o of a card of n signals
+module _ (rows known : List ℕ) (n o s : ℕ) (at : s ≡ outputIn rows n o) (found : Found)
+    (is : found ≡ foundOf (search (sourceFrom rows known) 15 s)) where
+  pub found-is : found ≡ foundOf (searchFrom rows known n o)
   unfolding searchFrom setOf
-  found-is = is ∙ ap (λ s. foundOf (search (sourceFrom netlist known) 15 s)) at
+  found-is = is ∙ ap (λ s. foundOf (search (sourceFrom rows known) 15 s)) at
 
-  pub found-few : {images wanteds places : List ℕ} {inputs : ℕ} → SearchReady images wanteds netlist places known inputs
-      → (found .gates ≤ suc s) × (found .pins ≤ 8 * 2304)
-  found-few r = rw is (search-few (sourceFrom netlist known) 15 s, taken-few r 15 s)
+  pub found-few : {images lookup : List ℕ} → SearchReady images lookup rows known → s < length known → (found .gates ≤ suc s) × (found .pins ≤ 8 * 2304)
+  found-few r below = rw is (search-few (sourceFrom rows known) 15 s, taken-few r 15 s below)
 
-  pub found-next : (count : Answer → ℕ) (sum more : ℕ) → sum ≡ sumFrom count netlist known entries o → more ≡ count (searchFrom netlist known entries o)
-      → sum + more ≡ sumFrom count netlist known entries (o + 1)
+  pub found-next : (count : Answer → ℕ) (sum more : ℕ) → sum ≡ sumFrom count rows known n o → more ≡ count (searchFrom rows known n o)
+      → sum + more ≡ sumFrom count rows known n (o + 1)
   unfolding sumBelow
   found-next count sum more e m = rw (e, m, add-one o) (add-comm _ _)
 
-  pub found-byte : (old now : List ℕ) → now ≡ written old 0 (byteFrom netlist known entries) o → o < length old
+  pub found-byte : (old now : List ℕ) → now ≡ written old 0 (byteFrom rows known n) o → o < length old
       → (byte : ℕ) → byte ≡ foundByte (found .verdict)
-      → set now o byte ≡ written old 0 (byteFrom netlist known entries) (o + 1)
+      → set now o byte ≡ written old 0 (byteFrom rows known n) (o + 1)
   found-byte old now e h byte b =
-      ap₂ (λ now byte. set now o byte) e (b ∙ ap (λ f. foundByte (f .verdict)) found-is ∙ byte-code ((searchFrom netlist known entries o) .verdict))
-      ∙ rw zero-add at (written-more old 0 (byteFrom netlist known entries) o (rw zero-add h))
+      ap₂ (λ now byte. set now o byte) e (b ∙ ap (λ f. foundByte (f .verdict)) found-is ∙ byte-code ((searchFrom rows known n o) .verdict))
+      ∙ rw zero-add at (written-more old 0 (byteFrom rows known n) o (rw zero-add h))
 
 -- the cells after one output more
-pub cells-next : (netlist known : List ℕ) (entries o s : ℕ) → s ≡ signalFrom netlist entries o → (lent now : List ℕ) → now ≡ cellsFrom netlist known entries o lent
-    → (after : List ℕ) → after ≡ cellsLeft (sourceFrom netlist known) 15 s now → after ≡ cellsFrom netlist known entries (o + 1) lent
+pub cells-next : (rows known : List ℕ) (n o s : ℕ) → s ≡ outputIn rows n o → (lent now : List ℕ) → now ≡ cellsFrom rows known n o lent
+    → (after : List ℕ) → after ≡ cellsLeft (sourceFrom rows known) 15 s now → after ≡ cellsFrom rows known n (o + 1) lent
 unfolding cellsFrom setOf
-cells-next netlist known entries o s at lent now e after is = is ∙ rw (add-one o) (ap₂ (cellsLeft (sourceFrom netlist known) 15) at e)
+cells-next rows known n o s at lent now e after is = is ∙ rw (add-one o) (ap₂ (cellsLeft (sourceFrom rows known) 15) at e)

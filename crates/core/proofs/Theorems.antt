@@ -1,10 +1,10 @@
 -- CORE is right: for every accepted netlist and list, each change and output. Assumes nothing.
 use Prim.Native.Nat.{ℕ, _+_, _≤_, _<_}
 use native.Mathlib.Omega.{arith}
-use mathlib.Core.Path.{_≡_, refl, sym, _∙_, ap, subst}
+use mathlib.Core.Path.{_≡_, sym, _∙_, ap}
 use mathlib.Core.List.{List}
 use borrow.Author.Tests.{le-ltb}
-use Rattle.kung.specs.Class.{Class, c0}
+use Rattle.kung.specs.Class.{c0}
 use Rattle.kung.specs.Rule.{gateClass}
 use Rattle.kung.specs.Sets.{cleanSet}
 use Rattle.circuit.specs.Circuit.{value, Falling}
@@ -12,21 +12,19 @@ use Rattle.circuit.proofs.Laws.{sources-falling}
 use Rattle.words.specs.Refusal.{refuse}
 use Rattle.netlist.specs.Netlist.{inputsOf, outputAt, cardOf}
 use Rattle.netlist.proofs.Accepted.{formed}
+use Rattle.changes.specs.declared.Task.{Task}
 use Rattle.changes.specs.declared.Listed.the-variants as list
 use Rattle.changes.specs.Changes.{widthOf, inputClassAt, sourcesOf}
 use Rattle.changes.specs.Refusals.{listChecked}
 use Rattle.changes.proofs.Accepted.{listed}
 use Rattle.search.specs.Search.{judged}
-use Rattle.search.specs.Search
 use Rattle.search.proofs.Right.{search-right}
 use Rattle.search.proofs.Counts.{search-gates}
-use Rattle.visit.specs.Source.{sourceFrom}
-use Rattle.visit.specs.Lent.{inputsKnown}
 use Rattle.core.specs.Core.{answered, guarded, searchOf, coreAnswer}
-use Rattle.core.proofs.Cards.{inputs-only, search-within}
-use Rattle.core.proofs.Entry.{search-is, answers}
+use Rattle.core.proofs.Cards.{search-within}
+use Rattle.core.proofs.Entry.{answers}
 
-module _ {i g o p s t w : ℕ} (n l : List ℕ) (accepted : listChecked n l ≡ list.Accepted i g o p s t w) (change output : ℕ) where
+module _ {task : Task} (n l : List ℕ) (accepted : listChecked n l ≡ list.Accepted task) (change output : ℕ) where
   falling : Falling (sourcesOf n l change)
   unfolding sourcesOf
   falling =
@@ -34,13 +32,14 @@ module _ {i g o p s t w : ℕ} (n l : List ℕ) (accepted : listChecked n l ≡ 
       (formed n (listed n l accepted .netlist-accepted) .well-formed)
 
   -- "Every pin is taken at most once": never more than P
-  pub pins-within : searchOf n l change output .pins ≤ p
-  unfolding searchOf
+  pub pins-within : searchOf n l change output .pins ≤ task .shape .pins
+  unfolding searchOf sourcesOf
   pins-within =
-      let f = formed n (listed n l accepted .netlist-accepted) in
-      let v = inputClassAt l (widthOf (inputsOf n)) change in
-      subst (λ a. a .pins ≤ p) (search-is n l change cleanSet (outputAt n output))
-      (omega (arith, search-within n (inputsKnown n v) (inputs-only n v) cleanSet (outputAt n output), f .pins-are))
+      omega (
+        arith,
+        search-within n (inputClassAt l (widthOf (inputsOf n)) change) cleanSet (outputAt n output),
+        formed n (listed n l accepted .netlist-accepted) .pins-are,
+      )
 
   -- each gate but the first is reached through a pin of its own
   pub gates-within : searchOf n l change output .gates ≤ searchOf n l change output .pins + 1
@@ -48,13 +47,13 @@ module _ {i g o p s t w : ℕ} (n l : List ℕ) (accepted : listChecked n l ≡ 
   gates-within = search-gates (sourcesOf n l change) falling cleanSet (outputAt n output)
 
   -- clean with its class exactly where that is 0, 1, R or F; refusal 21 is never met
-  pub core-right : change < t → output < o
+  pub core-right : change < task .changes → output < task .shape .outputs
       → coreAnswer n l change output
       ≡ answered (judged cleanSet (value gateClass c0 (sourcesOf n l change) (outputAt n output))) (searchOf n l change output .gates)
       (searchOf n l change output .pins)
   unfolding searchOf guarded refuse
   core-right early is =
       sym (answers n l change output accepted early is)
-      ∙ rw (le-ltb p (searchOf n l change output .pins) pins-within)
+      ∙ rw (le-ltb (task .shape .pins) (searchOf n l change output .pins) pins-within)
       (ap (λ v. answered v (searchOf n l change output .gates) (searchOf n l change output .pins))
       (search-right (sourcesOf n l change) falling cleanSet (outputAt n output)))

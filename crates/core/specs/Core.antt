@@ -30,10 +30,10 @@ guarded most answer = refuse Refused (ltb most (answer .pins)) 21 0 (answered (a
 -- "CORE: the list's, 18, output not below O 19"; "Places from 18 up are 0 unless given otherwise."
 unfoldable pub coreFrom : Listed → (change output : ℕ) → Answer → Cored
 coreFrom (list.Refused number place) change output answer = Refused number place
-coreFrom (list.Accepted inputs gates outputs pins entries changes width) change output answer =
-    refuse Refused (leb changes change) 18 0
-    (refuse Refused (leb outputs output) 19 0
-    (guarded pins answer))
+coreFrom (list.Accepted task) change output answer =
+    refuse Refused (leb (task .changes) change) 18 0
+    (refuse Refused (leb (task .shape .outputs) output) 19 0
+    (guarded (task .shape .pins) answer))
 
 unfoldable pub coreAnswer : (netlist list : List ℕ) → (change output : ℕ) → Cored
 coreAnswer n l change output = coreFrom (listChecked n l) change output (searchOf n l change output)

@@ -1,8 +1,8 @@
--- The searches of all outputs, where a byte for each signal says what is known.
-use Prim.Native.Nat.{ℕ, zero, suc, _+_, _*_}
+-- The searches of all outputs of a decoded card, where a byte for each signal says what is known.
+use Prim.Native.Nat.{ℕ, zero, suc}
 use mathlib.Core.List.{List}
 use Rattle.kung.specs.Sets.{cleanSet}
-use Rattle.words.specs.Words.{wordAt}
+use Rattle.rows.specs.Rows.{outputIn}
 use Rattle.search.specs.Search as search
 use Rattle.search.specs.Search.{Answer, search}
 use Rattle.search.specs.Pins.{sumBelow}
@@ -14,22 +14,18 @@ abbrev pub verdictByte : search.Verdict → ℕ
 verdictByte (search.clean k) = 0
 verdictByte search.hazardous = 1
 
--- an output's signal, its entry being one of those at a place; its search
-abbrev pub signalFrom : (netlist : List ℕ) → (entries output : ℕ) → ℕ
-signalFrom netlist entries o = wordAt netlist (entries + 2 * o)
+-- the search of output o of a card of n signals
+unfoldable pub searchFrom : (rows known : List ℕ) → (n o : ℕ) → Answer
+searchFrom rows known n o = search (sourceFrom rows known) cleanSet (outputIn rows n o)
 
-unfoldable pub searchFrom : (netlist known : List ℕ) → (entries output : ℕ) → Answer
-searchFrom netlist known entries o = search (sourceFrom netlist known) cleanSet (signalFrom netlist entries o)
+abbrev pub byteFrom : (rows known : List ℕ) → (n o : ℕ) → ℕ
+byteFrom rows known n o = verdictByte ((searchFrom rows known n o) .verdict)
 
-abbrev pub byteFrom : (netlist known : List ℕ) → (entries output : ℕ) → ℕ
-byteFrom netlist known entries o = verdictByte ((searchFrom netlist known entries o) .verdict)
+-- the gates visited, or the pins taken, for the outputs below o
+abbrev pub sumFrom : (Answer → ℕ) → (rows known : List ℕ) → (n o : ℕ) → ℕ
+sumFrom count rows known n o = sumBelow (λ o. count (searchFrom rows known n o)) o
 
--- the gates visited, or the pins taken, for the first n outputs
-abbrev pub sumFrom : (Answer → ℕ) → (netlist known : List ℕ) → (entries n : ℕ) → ℕ
-sumFrom count netlist known entries n = sumBelow (λ o. count (searchFrom netlist known entries o)) n
-
--- the cells lent for the first n outputs' searches, each of which leaves its own
-unfoldable pub cellsFrom : (netlist known : List ℕ) → (entries n : ℕ) → (lent : List ℕ) → List ℕ
-cellsFrom netlist known entries zero lent = lent
-cellsFrom netlist known entries (suc n) lent =
-    cellsLeft (sourceFrom netlist known) cleanSet (signalFrom netlist entries n) (cellsFrom netlist known entries n lent)
+-- the cells lent for these outputs' searches, each of which leaves its own
+unfoldable pub cellsFrom : (rows known : List ℕ) → (n o : ℕ) → (lent : List ℕ) → List ℕ
+cellsFrom rows known n zero lent = lent
+cellsFrom rows known n (suc o) lent = cellsLeft (sourceFrom rows known) cleanSet (outputIn rows n o) (cellsFrom rows known n o lent)

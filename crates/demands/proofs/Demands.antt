@@ -37,26 +37,26 @@ use Rattle.demands.proofs.Walks.{opening, step}
 use Rattle.demands.proofs.Verdicts.{output-below, demand2}
 
 -- each operation's answer is a chain of refusals
-full-chain : (change room : ℕ) (x : Listed) → chain simulated.Refused simulated.Done (λ i g o. ltb room (i + g)) 20 change x ≡ full.fullFrom x change room
+full-chain : (change room : ℕ) (x : Listed) → chain simulated.Refused simulated.Done (λ k. ltb room (k .inputs + k .gates)) 20 change x ≡ full.fullFrom x change room
 unfolding full.fullFrom refuse
 full-chain change room (list.Refused number place) = refl
-full-chain change room (list.Accepted i g o p s t w) = refl
+full-chain change room (list.Accepted task) = refl
 
 forward-chain : (change room touched visited : ℕ) (x : Listed)
-    → chain forwarded.Refused (forwarded.Done touched visited) (λ i g o. ltb room o) 20 change x ≡ forward.forwardFrom x change room (forwarded.Done touched visited)
+    → chain forwarded.Refused (forwarded.Done touched visited) (λ k. ltb room (k .outputs)) 20 change x ≡ forward.forwardFrom x change room (forwarded.Done touched visited)
 unfolding forward.forwardFrom refuse
 forward-chain change room touched visited (list.Refused number place) = refl
-forward-chain change room touched visited (list.Accepted i g o p s t w) = refl
+forward-chain change room touched visited (list.Accepted task) = refl
 
 module _ (n l : List ℕ) (change output : ℕ) where
   abbrev found : Cored
   found = answered (searchOf n l change output .verdict) (searchOf n l change output .gates) (searchOf n l change output .pins)
 
   core-chain : (x : Listed) → listChecked n l ≡ x
-      → chain cored.Refused found (λ i g o. leb o output) 19 change x ≡ coreFrom x change output (searchOf n l change output)
+      → chain cored.Refused found (λ k. leb (k .outputs) output) 19 change x ≡ coreFrom x change output (searchOf n l change output)
   unfolding coreFrom guarded refuse
   core-chain (list.Refused number place) e = refl
-  core-chain (list.Accepted i g o p s t w) e = rw (le-ltb p (searchOf n l change output .pins) (pins-within n l e change output))
+  core-chain (list.Accepted task) e = rw (le-ltb (task .shape .pins) (searchOf n l change output .pins) (pins-within n l e change output))
 
 -- a test of numbers, both ways
 abbrev Decides : Bool → Type 0 → Type 0
@@ -72,25 +72,25 @@ most x y z e =
 
 module _ (n l : List ℕ) (change output : ℕ) (buffer : List ℕ) where
   -- the last condition of each, by the netlist's numbers
-  short : (on : ListAccepted n l) → Decides (ltb (length buffer) (on .inputs + on .gates)) (length buffer < inputsOf n + gatesOf n)
-  short on = less (length buffer) (on .inputs + on .gates) (inputsOf n + gatesOf n) (ap₂ _+_ (form on .inputs-are) (form on .gates-are))
+  short : (on : ListAccepted n l) → Decides (ltb (length buffer) (on .task .shape .inputs + on .task .shape .gates)) (length buffer < inputsOf n + gatesOf n)
+  short on = less (length buffer) (on .task .shape .inputs + on .task .shape .gates) (inputsOf n + gatesOf n) (ap₂ _+_ (form on .inputs-are) (form on .gates-are))
 
-  few : (on : ListAccepted n l) → Decides (ltb (length buffer) (on .outputs)) (length buffer < outputsOf n)
-  few on = less (length buffer) (on .outputs) (outputsOf n) (form on .outputs-are)
+  few : (on : ListAccepted n l) → Decides (ltb (length buffer) (on .task .shape .outputs)) (length buffer < outputsOf n)
+  few on = less (length buffer) (on .task .shape .outputs) (outputsOf n) (form on .outputs-are)
 
-  none : (on : ListAccepted n l) → Decides (leb (on .outputs) output) (outputsOf n ≤ output)
-  none on = most (on .outputs) output (outputsOf n) (form on .outputs-are)
+  none : (on : ListAccepted n l) → Decides (leb (on .task .shape .outputs) output) (outputsOf n ≤ output)
+  none on = most (on .task .shape .outputs) output (outputsOf n) (form on .outputs-are)
 
-  full-cases : Cases simulated.Refused simulated.Done n l change (λ i g o. ltb (length buffer) (i + g)) 20 (length buffer < inputsOf n + gatesOf n)
+  full-cases : Cases simulated.Refused simulated.Done n l change (λ k. ltb (length buffer) (k .inputs + k .gates)) 20 (length buffer < inputsOf n + gatesOf n)
   full-cases =
       cases simulated.Refused simulated.Done (λ a b c d e. ((cc), (cc))) (λ a b e. let z : _≡_ {A = ℕ} 0 1 = cc in omega arith) n l
-      (λ i g o. ltb (length buffer) (i + g)) 20 change (length buffer < inputsOf n + gatesOf n) (λ on. short on .0) (λ on. short on .1)
+      (λ k. ltb (length buffer) (k .inputs + k .gates)) 20 change (length buffer < inputsOf n + gatesOf n) (λ on. short on .0) (λ on. short on .1)
 
-  forward-cases : Cases forwarded.Refused (forwarded.Done (touchedIn n l change) (visitedIn n l change)) n l change (λ i g o. ltb (length buffer) o) 20
+  forward-cases : Cases forwarded.Refused (forwarded.Done (touchedIn n l change) (visitedIn n l change)) n l change (λ k. ltb (length buffer) (k .outputs)) 20
       (length buffer < outputsOf n)
   forward-cases =
       cases forwarded.Refused (forwarded.Done (touchedIn n l change) (visitedIn n l change)) (λ a b c d e. ((cc), (cc)))
-      (λ a b e. let z : _≡_ {A = ℕ} 0 1 = cc in omega arith) n l (λ i g o. ltb (length buffer) o) 20 change (length buffer < outputsOf n) (λ on. few on .0)
+      (λ a b e. let z : _≡_ {A = ℕ} 0 1 = cc in omega arith) n l (λ k. ltb (length buffer) (k .outputs)) 20 change (length buffer < outputsOf n) (λ on. few on .0)
       (λ on. few on .1)
 
   never-found : (a b : ℕ) → cored.Refused a b ≡ found n l change output → ⊥
@@ -100,21 +100,21 @@ module _ (n l : List ℕ) (change output : ℕ) (buffer : List ℕ) where
       go (clean k) e = let z : _≡_ {A = ℕ} 0 1 = cc in omega arith
       go hazardous e = let z : _≡_ {A = ℕ} 0 1 = cc in omega arith
 
-  core-cases : Cases cored.Refused (found n l change output) n l change (λ i g o. leb o output) 19 (outputsOf n ≤ output)
+  core-cases : Cases cored.Refused (found n l change output) n l change (λ k. leb (k .outputs) output) 19 (outputsOf n ≤ output)
   core-cases =
-      cases cored.Refused (found n l change output) (λ a b c d e. ((cc), (cc))) never-found n l (λ i g o. leb o output) 19 change (outputsOf n ≤ output)
+      cases cored.Refused (found n l change output) (λ a b c d e. ((cc), (cc))) never-found n l (λ k. leb (k .outputs) output) 19 change (outputsOf n ≤ output)
       (λ on. none on .0) (λ on. none on .1)
 
-  full-is : chain simulated.Refused simulated.Done (λ i g o. ltb (length buffer) (i + g)) 20 change (listChecked n l) ≡ fullAnswer n l change buffer
+  full-is : chain simulated.Refused simulated.Done (λ k. ltb (length buffer) (k .inputs + k .gates)) 20 change (listChecked n l) ≡ fullAnswer n l change buffer
   unfolding fullAnswer
   full-is = full-chain change (length buffer) (listChecked n l)
 
-  forward-is : chain forwarded.Refused (forwarded.Done (touchedIn n l change) (visitedIn n l change)) (λ i g o. ltb (length buffer) o) 20 change (listChecked n l)
+  forward-is : chain forwarded.Refused (forwarded.Done (touchedIn n l change) (visitedIn n l change)) (λ k. ltb (length buffer) (k .outputs)) 20 change (listChecked n l)
       ≡ forwardAnswer n l change buffer
   unfolding forwardAnswer
   forward-is = forward-chain change (length buffer) (touchedIn n l change) (visitedIn n l change) (listChecked n l)
 
-  core-is : chain cored.Refused (found n l change output) (λ i g o. leb o output) 19 change (listChecked n l) ≡ coreAnswer n l change output
+  core-is : chain cored.Refused (found n l change output) (λ k. leb (k .outputs) output) 19 change (listChecked n l) ≡ coreAnswer n l change output
   unfolding coreAnswer
   core-is = core-chain n l change output (listChecked n l) refl
 

@@ -37,7 +37,7 @@ use Rattle.forward.proofs.Theorems.{forward-clean}
 use Rattle.demands.specs.Demands.{Accepted, firstVector, secondVector, Method, full, forward, core, cleanBy, Calls, Demand2}
 
 module _ (n l : List ℕ) (change : ℕ) (a : Accepted n l change) where
-  abbrev form : Formed n (a .on .inputs) (a .on .gates) (a .on .outputs) (a .on .pins) (a .on .entries)
+  abbrev form : Formed n (a .on .task .shape)
   form = formed n (listed n l (a .on .list-accepted) .netlist-accepted)
 
   input-class : (i : ℕ) → i < inputsOf n → classIn n l change i ≡ inputClass (firstVector n l change i) (secondVector n l change i)
@@ -130,7 +130,7 @@ module _ (n l : List ℕ) (change : ℕ) (a : Accepted n l change) where
       → (touched ≡ touchedIn n l change) × (visited ≡ visitedIn n l change)
   unfolding forwardAnswer method.forwardFrom refuse
   forward-counts buffer touched visited e =
-      go (leb (a .on .changes) change) (ltb (length buffer) (a .on .outputs)) (sym (ap judge (a .on .list-accepted)) ∙ e)
+      go (leb (a .on .task .changes) change) (ltb (length buffer) (a .on .task .shape .outputs)) (sym (ap judge (a .on .list-accepted)) ∙ e)
     where
       judge : Listed → Forwarded
       judge x = method.forwardFrom x change (length buffer) (forwarded.Done (touchedIn n l change) (visitedIn n l change))

@@ -11,7 +11,7 @@ use lib.ListN.{length}
 use denote.Ref.{RefT, now}
 use Rattle.words.specs.Words.{outside}
 use Rattle.words.proofs.Laws.{within}
-use Rattle.netlist.specs.Netlist.{gatesOf, kindAt, countAt, pastRecord, noKind, leastPins, mostPins, unfit, placeOf, accepted, checked}
+use Rattle.netlist.specs.Netlist.{gatesOf, kindAt, countAt, pastRecord, noKind, leastPins, mostPins, unfit, placeOf, shapeOf, accepted, checked}
 use Rattle.netlist.proofs.Accepted.{formed, least-some, most-eight}
 use Rattle.netlist.proofs.Proper.{first-refusal}
 use Rattle.walk.specs.declared.Walk.{Walk}
@@ -104,12 +104,12 @@ module _ (w : Walk) where
 
 module _ (s : RefT (List ℕ)) where
   carries : checked (now s) ≡ accepted (now s) → opened s .walk ≡ record { netlist = s; number = 0; place = 11; count = gatesOf (now s) }
-  unfolding opened gatesIn accepted
+  unfolding opened gatesIn accepted shapeOf
   carries e = rw e
 
   -- gate 0's record is whole
   first-whole : checked (now s) ≡ accepted (now s) → 0 < gatesOf (now s) → WholeRecord (now s) 11
-  unfolding accepted placeOf
+  unfolding accepted shapeOf placeOf
   first-whole e some = whole-exactly (now s) 11 .0 (whole-formed (now s) 11 (formed (now s) e .records 0 some))
 
   first-step : checked (now s) ≡ accepted (now s) → 0 < gatesOf (now s) → GivesRecord (opened s .walk)

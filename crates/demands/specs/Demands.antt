@@ -19,6 +19,7 @@ use Rattle.changes.specs.Changes.{first, second, bitOf, widthOf}
 use Rattle.changes.specs.Refusals.{listChecked}
 use Rattle.changes.specs.Proper.{ProperList, listConditions, listAccepted}
 use Rattle.changes.specs.declared.Listed.the-variants as list
+use Rattle.changes.specs.declared.Task.{Task}
 use Rattle.simulate.specs.Full.{classIn, fullAnswer, fullBuffer}
 use Rattle.simulate.specs.declared.Simulated.the-variants as simulated
 use Rattle.core.specs.Core.{answered, searchOf, coreAnswer}
@@ -32,19 +33,13 @@ use Rattle.bench.specs.Bench.{Event, signalValue, after, AllowedFrom, Order, Co
 
 -- an accepted netlist and list
 pub record ListAccepted (n l : List ℕ) : Type 0 where
-  pub inputs : ℕ
-  pub gates : ℕ
-  pub outputs : ℕ
-  pub pins : ℕ
-  pub entries : ℕ
-  pub changes : ℕ
-  pub width : ℕ
-  pub list-accepted : listChecked n l ≡ list.Accepted inputs gates outputs pins entries changes width
+  pub task : Task
+  pub list-accepted : listChecked n l ≡ list.Accepted task
 
 -- and a change of theirs
 pub record Accepted (n l : List ℕ) (change : ℕ) : Type 0 where
   pub on : ListAccepted n l
-  pub in-range : change < on .changes
+  pub in-range : change < on .task .changes
 
 -- the two vectors of a change, input by input
 abbrev pub firstVector : (n l : List ℕ) → (change : ℕ) → ℕ → Bool
@@ -92,7 +87,7 @@ pub record Reading (n l : List ℕ) : Type 0 where
 -- A refusal of an operation is the first condition met: "the list's, then change not below T 18", then one condition more.
 pub data FirstMet (n l : List ℕ) (change : ℕ) (last : Type 0) (lastNumber : ℕ) (number place : ℕ) : Type 0 where
   by-list : listChecked n l ≡ list.Refused number place → FirstMet n l change last lastNumber number place
-  by-change : (on : ListAccepted n l) → on .changes ≤ change → number ≡ 18 → place ≡ 0 → FirstMet n l change last lastNumber number place
+  by-change : (on : ListAccepted n l) → on .task .changes ≤ change → number ≡ 18 → place ≡ 0 → FirstMet n l change last lastNumber number place
   by-last : Accepted n l change → last → number ≡ lastNumber → place ≡ 0 → FirstMet n l change last lastNumber number place
 
 -- The operations: the verdict exactly where no condition is met, a refusal exactly where it is the first

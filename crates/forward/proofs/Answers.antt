@@ -6,9 +6,9 @@ use mathlib.Core.List.{List, _++_}
 use borrow.Author.Tests.{le-leb, lt-leb, lt-ltb, le-ltb}
 use lib.ListN.{length, getD, drop, List·getD-append}
 use Rattle.words.specs.Refusal.{refuse}
-use Rattle.netlist.specs.Netlist.{outputsOf, placeOf}
-use Rattle.netlist.specs.Formed.{Formed}
+use Rattle.netlist.specs.Netlist.{outputsOf}
 use Rattle.netlist.proofs.Accepted.{formed}
+use Rattle.changes.specs.declared.Task.{Task}
 use Rattle.changes.specs.declared.Listed.the-variants as list
 use Rattle.changes.specs.Refusals.{listChecked}
 use Rattle.changes.proofs.Laws.{tab-length}
@@ -22,16 +22,19 @@ module _ (n l : List ℕ) (change : ℕ) (buffer : List ℕ) where
   unfolding forwardAnswer forwardBuffer forwardFrom refuse
   refused-list number place e = (rw e, rw e)
 
-  module _ {i g o p s t w : ℕ} (e : listChecked n l ≡ list.Accepted i g o p s t w) where
-    pub refused-change : t ≤ change → (Refused 18 0 ≡ forwardAnswer n l change buffer) × (buffer ≡ forwardBuffer n l change buffer)
-    unfolding forwardAnswer forwardBuffer forwardFrom refuse
-    refused-change late = (rw (e, le-leb t change late), rw (e, le-leb t change late))
+  module _ {task : Task} (e : listChecked n l ≡ list.Accepted task) where
+    abbrev o : ℕ
+    o = task .shape .outputs
 
-    module _ (early : change < t) where
+    pub refused-change : task .changes ≤ change → (Refused 18 0 ≡ forwardAnswer n l change buffer) × (buffer ≡ forwardBuffer n l change buffer)
+    unfolding forwardAnswer forwardBuffer forwardFrom refuse
+    refused-change late = (rw (e, le-leb (task .changes) change late), rw (e, le-leb (task .changes) change late))
+
+    module _ (early : change < task .changes) where
       pub refused-room : length buffer < o → (Refused 20 0 ≡ forwardAnswer n l change buffer) × (buffer ≡ forwardBuffer n l change buffer)
       unfolding forwardAnswer forwardBuffer forwardFrom refuse
       refused-room small =
-          (rw (e, lt-leb t change early, lt-ltb (length buffer) o small), rw (e, lt-leb t change early, lt-ltb (length buffer) o small))
+          (rw (e, lt-leb (task .changes) change early, lt-ltb (length buffer) o small), rw (e, lt-leb (task .changes) change early, lt-ltb (length buffer) o small))
 
       bytes-length : length (forwardBytes n l change) ≡ o
       unfolding forwardBytes
@@ -51,7 +54,3 @@ module _ (n l : List ℕ) (change : ℕ) (buffer : List ℕ) where
       buffer-byte room out h =
           ap (λ b. getD b out 0) (sym (done room _ _ refl refl _ refl .1))
           ∙ List·getD-append (forwardBytes n l change) (drop o buffer) 0 out (rw bytes-length h)
-
--- the index has room for the places of the records
-pub places-fit : {i g o p e : ℕ} (n : List ℕ) → Formed n i g o p e → (g ≤ 2048) × (placeOf n g ≤ 65535)
-places-fit {g = g} n f = (f .gates-high, omega (arith, f .place-high g (omega arith), f .gates-high))

@@ -35,7 +35,7 @@ unfolding forwardAnswer forwardBuffer forwardFrom touchedIn outputSearch forward
 called n l = (forwardAnswer n l 0 (7 ∷ 9 ∷ []), forwardBuffer n l 0 (7 ∷ 9 ∷ []))
 
 mux-called : called muxNetlist muxList ≡ (Done 2 4, 1 ∷ 9 ∷ [])
-unfolding called
+unfolding called netlist.shapeOf
 mux-called = refl
 
 -- Mux with an added AND of signals 0 and 1 on a three-pin OR
@@ -49,5 +49,5 @@ abbrev mendedList : List ℕ
 mendedList = 0x4C ∷ 0x43 ∷ 0x54 ∷ 0x01 ∷ 0x00 ∷ 0x9C ∷ 0x28 ∷ 0x00 ∷ 0x00 ∷ 0x01 ∷ 0x00 ∷ 0x07 ∷ 0x03 ∷ []
 
 mended-called : called mendedNetlist mendedList ≡ (Done 4 0, 0 ∷ 9 ∷ [])
-unfolding called
+unfolding called netlist.shapeOf
 mended-called = refl

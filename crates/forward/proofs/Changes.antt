@@ -2,48 +2,49 @@
 use Prim.Native.Nat.{ℕ, zero, suc, _+_, _-_, _*_, _≤_, _<_}
 use native.Mathlib.Omega.{arith}
 use native.Mathlib.Decide.{decLt}
-use native.Mathlib.Nat.{add-sub-cancel-left}
 use mathlib.Core.Path.{_≡_, refl, sym, _∙_, ap, ap₂, fun-ext}
 use mathlib.Core.Bool.{Bool, true, false, cond, _||_, Bool·beq}
 use mathlib.Core.List.{List, [], _∷_, _++_}
 use mathlib.Core.Option.{none, some}
 use lib.Dec.{ltb}
-use lib.ListN.{length, getD, drop, replicate, length-append, length-drop, length-replicate, List·getD-append}
-use lib.Seq.{getD-drop, getD-append-add}
+use lib.ListN.{length, getD, take, drop, length-append, length-drop, List·getD-append, List·getD-eq-default}
+use lib.Seq.{getD-take, length-take-le}
 use borrow.Author.Tests.{lt-ltb}
 use Rattle.kung.specs.Class.{Class, c0, code, ofCode}
 use Rattle.kung.specs.Rule as rule
 use Rattle.kung.specs.Rule.{gateClass}
 use Rattle.kung.specs.Sets.{bit, cleanSet}
-use Rattle.kung.specs.Tables.{tab, imageTable, wantedTable}
+use Rattle.kung.specs.Tables.{tab, imageTable}
+use Rattle.kung.specs.Lookup.{lookupTable}
 use Rattle.kung.proofs.Finite.{everyClass, class-at, beq→≡, ofCode-code}
 use Rattle.circuit.specs.Circuit.{Source, given, gate, outOf, Each, value}
 use Rattle.circuit.proofs.Laws.{each-map, value-law, sources-cases}
-use Rattle.words.specs.Words.{wordAt}
-use Rattle.netlist.specs.Netlist.{inputsOf, gatesOf, gateKind, gatePins, cardOf}
-use Rattle.netlist.specs.Index.{placesOf}
+use Rattle.rows.specs.Rows.{rowKind, rowPins, outputIn}
+use Rattle.rows.specs.Lent.{GateRow}
+use Rattle.netlist.specs.Netlist.{inputsOf, gatesOf, outputsOf, gateKind, gatePins, outputAt, cardOf}
 use Rattle.netlist.specs.Formed.{Formed}
 use Rattle.netlist.proofs.Accepted.{formed}
-use Rattle.changes.specs.declared.Listed.the-variants.{Accepted}
+use Rattle.changes.specs.declared.Task.{Task}
 use Rattle.changes.specs.Changes.{sourcesOf}
-use Rattle.changes.specs.Written.{written}
-use Rattle.changes.specs.Refusals.{listChecked}
+use Rattle.changes.specs.Lent.{Accepts, signalsOf}
+use Rattle.changes.specs.Written.{inputCodes, written}
 use Rattle.changes.proofs.Laws.{written-all, written-kept}
 use Rattle.changes.proofs.Accepted.{listed}
 use Rattle.search.specs.Search.{search}
 use Rattle.search.specs.Pins.{sumBelow}
-use Rattle.search.proofs.Laws.{fresh-at}
-use Rattle.visit.specs.Source.{kindFrom, pinsFrom, sourceFrom}
-use Rattle.visit.specs.Lent.{GatesOnly}
+use Rattle.sweep.specs.Sweep.{codesOf, isConstantCode, anyConstant, touchedBy}
+use Rattle.visit.specs.Source.{sourceFrom}
+use Rattle.visit.specs.Lent.{SearchReady}
 use Rattle.core.specs.Outputs.{verdictByte, searchFrom, byteFrom, sumFrom}
 use Rattle.core.specs.Lent.{OutputsReady}
 use Rattle.visit.proofs.Codes.{code-small}
-use Rattle.core.proofs.Cards.{ready}
+use Rattle.core.proofs.Entry.{output-is, outputs-ready}
+use Rattle.simulate.proofs.Laws.{filled-codes, filled-after}
 use Rattle.simulate.specs.Full.{classIn, codes}
 use Rattle.simulate.proofs.Theorems.{class-value, codes-length, codes-at}
 use Rattle.forward.specs.Constants.{isConstant, constantOf, isKnown, orKnown, knownSources, touched}
 use Rattle.forward.specs.Forward.{constantsIn, touchedIn, outputSearch, forwardBytes, visitedIn}
-use Rattle.forward.specs.Known.{isConstantCode, anyConstant, touchedBy, knownOr8, knownCodes}
+use Rattle.forward.specs.Known.{knownOr8, knownCodes, sweptCodes}
 use Rattle.forward.proofs.Constants.{spread-is, known-given}
 use Rattle.forward.proofs.Theorems.{falling}
 use Rattle.forward.proofs.Bytes.{written-below, written-at, written-after}
@@ -53,10 +54,20 @@ unfolding rule.some
 some-ext f g [] h = refl
 some-ext f g (x ∷ xs) h = ap₂ _||_ (h .0) (some-ext f g xs (h .1))
 
-sum-ext : (f g : ℕ → ℕ) (n : ℕ) → ((k : ℕ) → k < n → f k ≡ g k) → sumBelow f n ≡ sumBelow g n
+pub sum-ext : (f g : ℕ → ℕ) (n : ℕ) → ((k : ℕ) → k < n → f k ≡ g k) → sumBelow f n ≡ sumBelow g n
 unfolding sumBelow
 sum-ext f g zero h = refl
 sum-ext f g (suc n) h = ap₂ _+_ (h n (omega arith)) (sum-ext f g n (λ k less. h k (omega arith)))
+
+tab-from : (f g : ℕ → ℕ) (i m : ℕ) → ((k : ℕ) → k < m → f (i + k) ≡ g (i + k)) → tab f i m ≡ tab g i m
+unfolding tab
+tab-from f g i zero h = refl
+tab-from f g i (suc m) h =
+    ap₂ _∷_ (let e : i + 0 ≡ i = omega arith in rw e at (h 0 (omega arith)))
+    (tab-from f g (suc i) m (λ k less. let e : i + suc k ≡ suc i + k = omega arith in rw e at (h (suc k) (omega arith))))
+
+pub tab-ext : (f g : ℕ → ℕ) (n : ℕ) → ((k : ℕ) → k < n → f k ≡ g k) → tab f 0 n ≡ tab g 0 n
+tab-ext f g n h = tab-from f g 0 n (λ k less. let e : 0 + k ≡ k = omega arith in rw e (h k less))
 
 constant-code : (k : Class) → isConstantCode (code k) ≡ isConstant k
 unfolding everyClass
@@ -83,157 +94,185 @@ read-known k c = rw constant-code (go (isConstant k))
     go true = read-given k c
     go false = refl
 
-module _ {i g o p e c w : ℕ} (n l : List ℕ) (accepted : listChecked n l ≡ Accepted i g o p e c w) (t : ℕ) where
-  -- what full simulation leaves in fresh bytes
-  abbrev filled : List ℕ
-  filled = codes n l t ++ drop (i + g) (replicate 2304 0)
+module _ (n l rows : List ℕ) (task : Task) (a : Accepts n l rows task) (t : ℕ) (old : List ℕ) (room : signalsOf (task .shape) ≤ length old) where
+  abbrev i : ℕ
+  i = task .shape .inputs
 
-  f : Formed n i g o p e
-  f = formed n (listed n l accepted .netlist-accepted)
+  abbrev g : ℕ
+  g = task .shape .gates
+
+  abbrev o : ℕ
+  o = task .shape .outputs
+
+  f : Formed n (task .shape)
+  f = formed n (listed n l (a .accepted) .netlist-accepted)
+
+  -- the bytes that the inputs' codes are filled in, and those that the gate pass then leaves
+  abbrev filled : List ℕ
+  filled = inputCodes l (task .width) t i ++ drop i old
+
+  abbrev swept : List ℕ
+  swept = codes n l t ++ drop (i + g) old
+
+  swept-is : sweptCodes rows filled i g ≡ swept
+  unfolding sweptCodes
+  swept-is = ap₂ _++_ (filled-codes n l rows task a t old) (filled-after n l rows task a t old)
 
   signals-are : inputsOf n + gatesOf n ≡ i + g
   signals-are = omega (arith, f .inputs-are, f .gates-are)
 
-  -- there are at most 2,304 signals
-  pub signals-high : i + g ≤ 2304
-  signals-high = omega (arith, f .inputs-high, f .gates-high)
-
   codes-few : length (codes n l t) ≡ i + g
   codes-few = codes-length n l t ∙ signals-are
 
-  filled-below : (s : ℕ) → s < i + g → getD filled s 0 ≡ code (classIn n l t s)
-  filled-below s h =
-      List·getD-append (codes n l t) (drop (i + g) (replicate 2304 0)) 0 s (rw codes-few h) ∙ codes-at n l t s (rw signals-are h)
+  codes-below : (s : ℕ) → s < i + g → getD (codes n l t) s 0 ≡ code (classIn n l t s)
+  codes-below s h = codes-at n l t s (rw signals-are h)
 
-  filled-above : (s : ℕ) → i + g ≤ s → getD filled s 0 ≡ 0
-  filled-above s h =
-      let d : s ≡ length (codes n l t) + (s - (i + g)) = omega (arith, codes-few) in
-      ap (λ k. getD filled k 0) d ∙ getD-append-add (codes n l t) (drop (i + g) (replicate 2304 0)) (s - (i + g)) 0
-      ∙ getD-drop (i + g) (replicate 2304 0) (s - (i + g)) 0 ∙ fresh-at 2304 (i + g + (s - (i + g)))
+  swept-below : (s : ℕ) → s < i + g → getD swept s 0 ≡ code (classIn n l t s)
+  swept-below s h = List·getD-append (codes n l t) (drop (i + g) old) 0 s (rw codes-few h) ∙ codes-below s h
 
   constant-is : (s : ℕ) → s < i + g → constantsIn n l t s ≡ constantOf (classIn n l t s)
-  constant-is s h = spread-is (sourcesOf n l t) (falling n l accepted t) (inputsOf n + gatesOf n) s (rw signals-are h) ∙ ap constantOf (sym (class-value n l t s))
+  constant-is s h =
+      spread-is (sourcesOf n l t) (falling n l (a .accepted) t) (inputsOf n + gatesOf n) s (rw signals-are h) ∙ ap constantOf (sym (class-value n l t s))
 
   -- the touched count
-  pub touched-is : touchedBy n filled g ≡ touchedIn n l t
+  pub touched-is : touchedBy rows (codesOf rows filled i g (i + g)) i g ≡ touchedIn n l t
   unfolding touchedBy anyConstant touchedIn touched cardOf
   touched-is =
       sum-ext _ _ g (λ h below.
-      ap bit (some-ext _ _ (gatePins n h)
+      ap bit (ap (rule.some _) (pins h below) ∙ some-ext _ _ (gatePins n h)
       (each-map (λ x (less : x < inputsOf n + h). known x (omega (arith, f .inputs-are))) (gatePins n h) (f .well-formed h (omega (arith, f .gates-are))))))
       ∙ ap (sumBelow _) (f .gates-are)
     where
-      known : (x : ℕ) → x < i + g → isConstantCode (getD filled x 0) ≡ isKnown (constantsIn n l t x)
-      known x h = ap isConstantCode (filled-below x h) ∙ constant-code (classIn n l t x) ∙ known-constant (classIn n l t x) ∙ ap isKnown (sym (constant-is x h))
+      pins : (h : ℕ) → h < g → rowPins rows (i + h) ≡ gatePins n h
+      pins h below = ap (λ m. rowPins rows (m + h)) (f .inputs-are) ∙ a .decoded .pins-are h (omega (arith, f .gates-are))
 
-  -- then, with 8 for the gates to be searched
+      known : (x : ℕ) → x < i + g → isConstantCode (getD (codesOf rows filled i g (i + g)) x 0) ≡ isKnown (constantsIn n l t x)
+      known x h =
+          ap (λ c. isConstantCode (getD c x 0)) (filled-codes n l rows task a t old) ∙ ap isConstantCode (codes-below x h)
+          ∙ constant-code (classIn n l t x) ∙ known-constant (classIn n l t x) ∙ ap isKnown (sym (constant-is x h))
+
+  -- then, with 8 for the gates to be searched, a byte for each signal
   abbrev marked : List ℕ
-  marked = knownCodes filled i g
+  marked = knownCodes swept i g
+
+  abbrev pub known : List ℕ
+  known = take (i + g) marked
 
   abbrev src : ℕ → Source Class
   src = knownSources (sourcesOf n l t) (inputsOf n + gatesOf n)
 
   class-given : (s : ℕ) (k : Class) → sourcesOf n l t s ≡ given k → classIn n l t s ≡ k
   class-given s k d =
-      class-value n l t s ∙ value-law gateClass c0 (sourcesOf n l t) (falling n l accepted t) s
+      class-value n l t s ∙ value-law gateClass c0 (sourcesOf n l t) (falling n l (a .accepted) t) s
       ∙ ap (λ c. outOf gateClass c (value gateClass c0 (sourcesOf n l t))) d
 
-  inputs-fit : i ≤ length filled
-  inputs-fit = omega (arith, length-append (codes n l t) (drop (i + g) (replicate 2304 0)), codes-few)
+  swept-length : length swept ≡ length old
+  swept-length = omega (arith, length-append (codes n l t) (drop (i + g) old), codes-few, length-drop (i + g) old)
 
-  marked-input : (s : ℕ) → s < i → getD marked s 0 ≡ code (classIn n l t s)
-  unfolding knownCodes
-  marked-input s h = written-below filled i _ g inputs-fit s h ∙ filled-below s (omega arith)
+  inputs-fit : i ≤ length swept
+  inputs-fit = omega (arith, swept-length)
 
-  marked-gate : (h : ℕ) → h < g → getD marked (i + h) 0 ≡ knownOr8 (code (classIn n l t (i + h)))
+  pub marked-length : length marked ≡ length old
   unfolding knownCodes
-  marked-gate h below = written-at filled i _ g inputs-fit h below ∙ ap knownOr8 (filled-below (i + h) (omega arith))
+  marked-length = written-kept swept i _ g (omega (arith, swept-length)) ∙ swept-length
 
-  marked-above : (s : ℕ) → i + g ≤ s → getD marked s 0 ≡ 0
+  pub known-length : length known ≡ i + g
+  known-length = length-take-le (i + g) marked (omega (arith, marked-length))
+
+  known-input : (s : ℕ) → s < i → getD known s 0 ≡ code (classIn n l t s)
   unfolding knownCodes
-  marked-above s h =
-      let e : s ≡ i + (s - i) = omega arith in
-      ap (λ m. getD marked m 0) e ∙ written-after filled i _ g inputs-fit (s - i) (omega arith) ∙ filled-above (i + (s - i)) (omega arith)
+  known-input s h = getD-take (i + g) marked s 0 (omega arith) ∙ written-below swept i _ g inputs-fit s h ∙ swept-below s (omega arith)
+
+  known-gate : (h : ℕ) → h < g → getD known (i + h) 0 ≡ knownOr8 (code (classIn n l t (i + h)))
+  unfolding knownCodes
+  known-gate h below =
+      getD-take (i + g) marked (i + h) 0 (omega arith) ∙ written-at swept i _ g inputs-fit h below ∙ ap knownOr8 (swept-below (i + h) (omega arith))
+
+  known-above : (s : ℕ) → i + g ≤ s → getD known s 0 ≡ 0
+  known-above s h = List·getD-eq-default known 0 {n = s} (rw known-length h)
 
   -- each signal's byte tells its source
-  pub source-at : (s : ℕ) → sourceFrom n marked s ≡ src s
+  source-at : (s : ℕ) → sourceFrom rows known s ≡ src s
   unfolding sourcesOf cardOf knownSources sourceFrom
   source-at s =
-      sources-cases (cardOf n) c0 _ (λ s c. sourcesOf n l t s ≡ c → sourceFrom n marked s ≡ src s) (λ s h. input s h _) driven above s refl
+      sources-cases (cardOf n) c0 _ (λ s c. sourcesOf n l t s ≡ c → sourceFrom rows known s ≡ src s) (λ s h. input s h _) driven above s refl
     where
-      input : (s : ℕ) → s < inputsOf n → (k : Class) → sourcesOf n l t s ≡ given k → sourceFrom n marked s ≡ src s
+      row : ℕ → Source Class
+      row s = gate (rowKind rows s) (rowPins rows s)
+
+      input : (s : ℕ) → s < inputsOf n → (k : Class) → sourcesOf n l t s ≡ given k → sourceFrom rows known s ≡ src s
       input s h k d =
-          ap (λ b. read b (gate (kindFrom n s) (pinsFrom n s))) (marked-input s (omega (arith, f .inputs-are)) ∙ ap code (class-given s k d))
-          ∙ read-given k (gate (kindFrom n s) (pinsFrom n s))
+          ap (λ b. read b (row s)) (known-input s (omega (arith, f .inputs-are)) ∙ ap code (class-given s k d))
+          ∙ read-given k (row s)
           ∙ sym (known-given (sourcesOf n l t) (inputsOf n + gatesOf n) s k d)
 
       driven : (h : ℕ) → h < gatesOf n → sourcesOf n l t (inputsOf n + h) ≡ gate (gateKind n h) (gatePins n h)
-          → sourceFrom n marked (inputsOf n + h) ≡ src (inputsOf n + h)
+          → sourceFrom rows known (inputsOf n + h) ≡ src (inputsOf n + h)
       driven h below d =
           let s = inputsOf n + h in
           ap₂ read
-          (ap (λ m. getD marked (m + h) 0) (sym (f .inputs-are)) ∙ marked-gate h (omega (arith, f .gates-are))
+          (ap (λ m. getD known (m + h) 0) (sym (f .inputs-are)) ∙ known-gate h (omega (arith, f .gates-are))
           ∙ ap (λ m. knownOr8 (code (classIn n l t (m + h)))) (f .inputs-are))
-          (ap (λ g. gate (gateKind n g) (gatePins n g)) (add-sub-cancel-left (inputsOf n) h))
+          (λ i. gate (a .decoded .kinds-are h below i) (a .decoded .pins-are h below i))
           ∙ read-known (classIn n l t s) (gate (gateKind n h) (gatePins n h))
           ∙ ap₂ orKnown (sym (constant-is s (omega (arith, signals-are)))) (sym d)
 
-      above : (s : ℕ) → inputsOf n + gatesOf n ≤ s → sourcesOf n l t s ≡ given c0 → sourceFrom n marked s ≡ src s
+      above : (s : ℕ) → inputsOf n + gatesOf n ≤ s → sourcesOf n l t s ≡ given c0 → sourceFrom rows known s ≡ src s
       above s h d =
-          ap (λ b. read b (gate (kindFrom n s) (pinsFrom n s))) (marked-above s (omega (arith, signals-are))) ∙ read-given c0 (gate (kindFrom n s) (pinsFrom n s))
+          ap (λ b. read b (row s)) (known-above s (omega (arith, signals-are))) ∙ read-given c0 (row s)
           ∙ sym (known-given (sourcesOf n l t) (inputsOf n + gatesOf n) s c0 d)
 
   -- so the searches are those of the forward method
-  search-is : (out : ℕ) → searchFrom n marked e out ≡ outputSearch n l t out
+  search-is : (out : ℕ) → out < o → searchFrom rows known (i + g) out ≡ outputSearch n l t out
   unfolding searchFrom outputSearch
-  search-is out = ap₂ (λ src at. search src cleanSet (wordAt n (at + 2 * out))) (fun-ext source-at) (f .entries-are)
+  search-is out h = ap₂ (λ src s. search src cleanSet s) (fun-ext source-at) (output-is n l rows task a t out h)
 
-  pub visited-is : sumFrom (λ a. a .gates) n marked e o ≡ visitedIn n l t
+  pub visited-is : sumFrom (λ a. a .gates) rows known (i + g) o ≡ visitedIn n l t
   unfolding visitedIn
-  visited-is = ap₂ sumBelow (fun-ext (λ out. ap (λ a. a .gates) (search-is out))) (f .outputs-are)
+  visited-is = sum-ext _ _ o (λ out h. ap (λ a. a .gates) (search-is out h)) ∙ ap (sumBelow _) (f .outputs-are)
 
-  pub bytes-are : (old : List ℕ) → written old 0 (byteFrom n marked e) o ≡ forwardBytes n l t ++ drop o old
+  pub bytes-are : (buffer : List ℕ) → written buffer 0 (byteFrom rows known (i + g)) o ≡ forwardBytes n l t ++ drop o buffer
   unfolding forwardBytes
-  bytes-are old =
-      written-all old (byteFrom n marked e) o
-      ∙ ap₂ (λ byte m. tab byte 0 m ++ drop o old) (fun-ext (λ out. ap (λ a. verdictByte (a .verdict)) (search-is out))) (f .outputs-are)
+  bytes-are buffer =
+      written-all buffer (byteFrom rows known (i + g)) o
+      ∙ ap (λ bytes. bytes ++ drop o buffer)
+      (tab-ext _ _ o (λ out h. ap (λ a. verdictByte (a .verdict)) (search-is out h)) ∙ ap (tab _ 0) (f .outputs-are))
 
   -- only gates are to be searched
-  marked-only : GatesOnly n marked
-  marked-only s h = go (decLt s i) (decLt s (i + g))
+  known-only : (s : ℕ) → 8 ≤ getD known s 0 → GateRow rows s
+  known-only s h = go (decLt s i) (decLt s (i + g))
     where
-      go : Dec (s < i) → Dec (s < i + g) → (inputsOf n ≤ s) × (s < inputsOf n + gatesOf n)
-      go (yes below) d = absurd (omega (arith, marked-input s below, code-small (classIn n l t s)))
-      go (no above) (yes below) = (omega (arith, f .inputs-are), omega (arith, signals-are))
-      go (no above) (no beyond) = absurd (omega (arith, marked-above s (omega arith)))
-
-  filled-length : length filled ≡ 2304
-  filled-length =
-      omega (
-        arith,
-        length-append (codes n l t) (drop (i + g) (replicate 2304 0)),
-        codes-few,
-        length-drop (i + g) (replicate {A = ℕ} 2304 0),
-        length-replicate {A = ℕ} 2304 0,
-        signals-high,
-      )
-
-  pub filled-room : (now : List ℕ) → now ≡ filled → i + g ≤ length now
-  filled-room now d = omega (arith, ap length d, filled-length, signals-high)
-
-  marked-length : length marked ≡ 2304
-  unfolding knownCodes
-  marked-length = written-kept filled i _ g (omega (arith, filled-length, signals-high)) ∙ filled-length
+      go : Dec (s < i) → Dec (s < i + g) → GateRow rows s
+      go (yes below) d = absurd (omega (arith, known-input s below, code-small (classIn n l t s)))
+      go (no above) (yes below) =
+          let e : inputsOf n + (s - inputsOf n) ≡ s = omega (arith, f .inputs-are) in
+          rw e at (a .decoded .gate (s - inputsOf n) (omega (arith, f .inputs-are, signals-are)))
+      go (no above) (no beyond) = absurd (omega (arith, known-above s (omega arith)))
 
   -- the outputs can be searched
-  pub searchable : (now : List ℕ) → now ≡ marked → (images wanteds places rest : List ℕ) → images ≡ imageTable → wanteds ≡ wantedTable
-      → places ≡ placesOf n g ++ rest → (room : ℕ) → o ≤ room → OutputsReady images wanteds n places now i o e room
-  searchable now d images wanteds places rest images-are wanteds-are places-are room enough =
-      rw d
+  pub searchable : {images lookup : List ℕ} → images ≡ imageTable → lookup ≡ lookupTable → (k : List ℕ) → k ≡ known → (room : ℕ) → o ≤ room
+      → OutputsReady images lookup rows k (task .shape) room
+  searchable images-are lookup-are k e room enough =
+      rw e
+      (outputs-ready n l rows task a t known
       (record {
-        ready = ready n places rest images-are wanteds-are f places-are marked-only;
-        signals-high = omega (arith, marked-length);
-        outputs-high = f .outputs-high;
-        output-below = λ out below. omega (arith, marked-length, signals-high, rw (← f .entries-are) at (f .output-below out below));
-        enough = enough;
-      })
+        images-are = images-are;
+        lookup-are = lookup-are;
+        gates-only = known-only;
+        few-signals = omega (arith, known-length, f .inputs-high, f .gates-high);
+      }) known-length room enough)
+
+  -- the same, of what the calls hand back
+  module _ (now : List ℕ) (e : now ≡ filled) where
+    pub touched-by : (r : ℕ) → r ≡ touchedBy rows (codesOf rows now i g (i + g)) i g → r ≡ touchedIn n l t
+    touched-by r d = d ∙ ap (λ b. touchedBy rows (codesOf rows b i g (i + g)) i g) e ∙ touched-is
+
+    pub known-by : (after : List ℕ) → after ≡ knownCodes (sweptCodes rows now i g) i g → take (i + g) after ≡ known
+    known-by after d = ap (take (i + g)) (d ∙ ap (λ b. knownCodes (sweptCodes rows b i g) i g) e ∙ ap (λ b. knownCodes b i g) swept-is)
+
+  module _ (k : List ℕ) (e : k ≡ known) where
+    pub visited-by : (r : ℕ) → r ≡ sumFrom (λ a. a .gates) rows k (i + g) o → r ≡ visitedIn n l t
+    visited-by r d = d ∙ ap (λ k. sumFrom (λ a. a .gates) rows k (i + g) o) e ∙ visited-is
+
+    pub bytes-by : (buffer exit : List ℕ) → exit ≡ written buffer 0 (byteFrom rows k (i + g)) o → exit ≡ forwardBytes n l t ++ drop o buffer
+    bytes-by buffer exit d = d ∙ ap (λ k. written buffer 0 (byteFrom rows k (i + g)) o) e ∙ bytes-are buffer

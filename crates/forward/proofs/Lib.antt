@@ -3,4 +3,4 @@ pub mod Theorems
 pub mod Answers
 pub mod Cases
 mod Bytes
-mod Changes
+pub mod Changes

@@ -17,6 +17,7 @@ use Rattle.circuit.specs.Circuit.{Falling, value}
 use Rattle.circuit.proofs.Laws.{sources-falling, sources-above}
 use Rattle.netlist.specs.Netlist.{inputsOf, gatesOf, outputsOf, outputAt, cardOf}
 use Rattle.netlist.proofs.Accepted.{formed}
+use Rattle.changes.specs.declared.Task.{Task}
 use Rattle.changes.specs.declared.Listed.the-variants.{Accepted}
 use Rattle.changes.specs.Changes.{sourcesOf}
 use Rattle.changes.specs.Refusals.{listChecked}
@@ -44,7 +45,7 @@ constant-clean : (k : Class) → isConstant k ≡ true → clean k ≡ true
 unfolding everyClass
 constant-clean k h = T→≡ _ (implied (isConstant k) (clean k) (class-at (λ k. implies (isConstant k) (clean k)) tt k) (≡→T _ h))
 
-module _ {i g o p e c w : ℕ} (n l : List ℕ) (accepted : listChecked n l ≡ Accepted i g o p e c w) (t : ℕ) where
+module _ {task : Task} (n l : List ℕ) (accepted : listChecked n l ≡ Accepted task) (t : ℕ) where
   pub falling : Falling (sourcesOf n l t)
   unfolding sourcesOf
   falling = sources-falling (cardOf n) c0 _ (formed n (listed n l accepted .netlist-accepted) .well-formed)

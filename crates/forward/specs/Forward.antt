@@ -42,9 +42,9 @@ visitedIn n l t = sumBelow (λ o. (outputSearch n l t o) .gates) (outputsOf n)
 -- "Forward: the list's, 18, buffer under O 20."; "Places from 18 up are 0 unless given otherwise."
 unfoldable pub forwardFrom : Listed → (change room : ℕ) → Forwarded → Forwarded
 forwardFrom (list.Refused number place) change room next = Refused number place
-forwardFrom (list.Accepted inputs gates outputs pins entries changes width) change room next =
-    refuse Refused (leb changes change) 18 0
-    (refuse Refused (ltb room outputs) 20 0
+forwardFrom (list.Accepted task) change room next =
+    refuse Refused (leb (task .changes) change) 18 0
+    (refuse Refused (ltb room (task .shape .outputs)) 20 0
     next)
 
 -- "returned are the touched count and the sum of gates visited over all outputs"

@@ -1,4 +1,3 @@
 pub mod Constants
 pub mod Forward
 pub mod Known
-pub mod Lent

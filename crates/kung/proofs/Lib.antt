@@ -4,3 +4,5 @@ pub mod SetLaws
 pub mod Listed
 pub mod Unions
 pub mod Places
+pub mod Gates
+pub mod Lookups

@@ -1,10 +1,15 @@
 -- Functions on a finite domain agree where their lists of values do: one comparison that antt computes. Assumes nothing.
-use mathlib.Core.Path.{_≡_, sym, _∙_, ap}
+use mathlib.Core.Path.{_≡_, refl, sym, _∙_, ap}
 use Prim.Native.Nat.{ℕ, zero, suc, _+_, _<_}
 use native.Mathlib.Nat.{add-zero, zero-add}
 use native.Mathlib.Omega.{arith}
-use lib.ListN.{getD}
+use lib.ListN.{length, getD}
 use Rattle.kung.specs.Tables.{tab}
+
+pub length-tab : (f : ℕ → ℕ) (i n : ℕ) → length (tab f i n) ≡ n
+unfolding tab
+length-tab f i zero = refl
+length-tab f i (suc n) = ap suc (length-tab f (suc i) n)
 
 from : (f : ℕ → ℕ) (n i k : ℕ) → k < n → getD (tab f i n) k 0 ≡ f (i + k)
 unfolding tab

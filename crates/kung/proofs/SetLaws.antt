@@ -8,12 +8,12 @@ use lib.Count.{trailingZeros}
 use lib.Dec.{eqb, eqb→eq, eqb-refl, ltb, ltb→lt}
 use lib.ListN.{length, getD}
 use Rattle.kung.specs.Class.{Class, c0, code, classes, same}
-use Rattle.kung.specs.Rule.{some, invert, Kind, gateClass}
-use Rattle.kung.specs.Operation.{Op, opOf, inverts, join, joinAll, invertIf}
+use Rattle.kung.specs.Rule.{some, invert}
+use Rattle.kung.specs.Operation.{Op, join, joinAll, invertIf}
 use Rattle.kung.specs.Sets.{setOf, has, meets, image, possible, wantedFor}
 use Rattle.kung.specs.Members.{swapIf, keep, members, insert, collect}
 use Rattle.kung.specs.Tables.{preimage, reach}
-use Rattle.kung.proofs.Laws.{join-assoc, join-comm, join-idem, joinAll-cons, gateClass-op}
+use Rattle.kung.proofs.Laws.{join-assoc, join-comm, join-idem, joinAll-cons}
 use Rattle.kung.proofs.Finite.{everyClass, class-at, same→≡, beq→≡, T→≡, ≡→T}
 use Rattle.kung.proofs.Unions.{nested, digit, eqb-bit}
 
@@ -131,45 +131,43 @@ pub has-swapIf : (inverted : Bool) (m : ℕ) (k : Class) → has (swapIf inverte
 unfolding swapIf
 has-swapIf inverted m k = has-setOf (λ k. has m (invertIf inverted k)) k
 
--- A wanted set is a preimage, and what reaches it where pins are left after this one.
-module _ (o : Op) (inverted : Bool) (p : Class) (w : ℕ) where
-  pub wanted-last : wantedFor o inverted p false w ≡ preimage o p (swapIf inverted w)
+-- What the gate can give comes into its wanted set exactly where p does, before inversion: at once, or with some class more where pins are left.
+module _ (o : Op) (inverted : Bool) (w : ℕ) where
+  abbrev Goal : Bool → ℕ
+  Goal left = cond left (reach o (swapIf inverted w)) (swapIf inverted w)
+
+  pub meets-possible : (left : Bool) (p : Class) → meets (possible o inverted p left) w ≡ has (Goal left) p
+  unfolding reach
+  meets-possible true p = iff→≡ _ _ there back ∙ sym (has-setOf (λ k. some (λ c. has (swapIf inverted w) (join o k c)) classes) p)
+    where
+      there : meets (possible o inverted p true) w ≡ true → some (λ c. has (swapIf inverted w) (join o p c)) classes ≡ true
+      there e =
+          let x = meets-elim _ w e in
+          let y = possible-elim o inverted p true (x .0) (x .1) in
+          some-intro (λ c. has (swapIf inverted w) (join o p c)) (y .0) (has-swapIf inverted w (join o p (y .0)) ∙ ap (has w) (y .1) ∙ x .2)
+
+      back : some (λ c. has (swapIf inverted w) (join o p c)) classes ≡ true → meets (possible o inverted p true) w ≡ true
+      back e =
+          let x = some-elim (λ c. has (swapIf inverted w) (join o p c)) classes e in
+          meets-intro _ w _ (in-possible o inverted p true (x .0)) (sym (has-swapIf inverted w (join o p (x .0))) ∙ x .1)
+  meets-possible false p = iff→≡ _ _ there back
+    where
+      there : meets (possible o inverted p false) w ≡ true → has (swapIf inverted w) p ≡ true
+      there e =
+          let x = meets-elim _ w e in
+          let y = possible-elim o inverted p false (x .0) (x .1) in
+          has-swapIf inverted w p ∙ ap (has w) (y .1) ∙ x .2
+
+      back : has (swapIf inverted w) p ≡ true → meets (possible o inverted p false) w ≡ true
+      back e = meets-intro _ w _ (in-possible o inverted p false p) (sym (has-swapIf inverted w p) ∙ e)
+
+  -- so the wanted set of the gate behind a pin is a preimage
+  pub wanted-preimage : (leftAfter : Bool) (p : Class) → wantedFor o inverted p leftAfter w ≡ preimage o p (Goal leftAfter)
   unfolding wantedFor preimage
-  wanted-last = setOf-ext _ _ (λ k. iff→≡ _ _ (there k) (back k))
-    where
-      there : (k : Class) → meets (possible o inverted (join o p k) false) w ≡ true → has (swapIf inverted w) (join o p k) ≡ true
-      there k e =
-          let x = meets-elim _ w e in
-          let y = possible-elim o inverted (join o p k) false (x .0) (x .1) in
-          has-swapIf inverted w (join o p k) ∙ ap (has w) (y .1) ∙ x .2
-
-      back : (k : Class) → has (swapIf inverted w) (join o p k) ≡ true → meets (possible o inverted (join o p k) false) w ≡ true
-      back k e = meets-intro _ w _ (in-possible o inverted (join o p k) false k) (sym (has-swapIf inverted w (join o p k)) ∙ e)
-
-  pub wanted-more : wantedFor o inverted p true w ≡ reach o (preimage o p (swapIf inverted w))
-  unfolding wantedFor preimage reach
-  wanted-more = setOf-ext _ _ (λ k. iff→≡ _ _ (there k) (back k))
-    where
-      into : (x : Class) → has (preimage o p (swapIf inverted w)) x ≡ has w (invertIf inverted (join o p x))
-      into x = has-setOf (λ k. has (swapIf inverted w) (join o p k)) x ∙ has-swapIf inverted w (join o p x)
-
-      there : (k : Class) → meets (possible o inverted (join o p k) true) w ≡ true
-          → some (λ c. has (preimage o p (swapIf inverted w)) (join o k c)) classes ≡ true
-      there k e =
-          let x = meets-elim _ w e in
-          let y = possible-elim o inverted (join o p k) true (x .0) (x .1) in
-          some-intro (λ c. has (preimage o p (swapIf inverted w)) (join o k c)) (y .0)
-          (into (join o k (y .0)) ∙ ap (λ z. has w (invertIf inverted z)) (sym (join-assoc o p k (y .0))) ∙ ap (has w) (y .1) ∙ x .2)
-
-      back : (k : Class) → some (λ c. has (preimage o p (swapIf inverted w)) (join o k c)) classes ≡ true
-          → meets (possible o inverted (join o p k) true) w ≡ true
-      back k e =
-          let x = some-elim (λ c. has (preimage o p (swapIf inverted w)) (join o k c)) classes e in
-          meets-intro _ w _ (in-possible o inverted (join o p k) true (x .0))
-          (ap (λ z. has w (invertIf inverted z)) (join-assoc o p k (x .0)) ∙ sym (into (join o k (x .0))) ∙ x .1)
+  wanted-preimage leftAfter p = setOf-ext _ _ (λ k. meets-possible leftAfter (join o p k))
 
 -- The forms in which the code makes the sets.
-has-one : (k x : Class) → has (insert 0 k) x ≡ same k x
+pub has-one : (k x : Class) → has (insert 0 k) x ≡ same k x
 unfolding insert
 has-one k x = has-setOf (λ c. has 0 c || same k c) x ∙ (λ i. has-none x i || same k x)
 
@@ -260,14 +258,10 @@ join-more o m n k e =
     (λ i. joinAll o (keep (λ x. e x i) classes)) ∙ absorb o (has m) k classes
     ∙ ap (λ b. cond b (join o k (joinAll o (members m))) (joinAll o (members m))) (some-intro (same k) k (same-refl k))
 
--- A gate's class depends on the set of its pins' classes alone.
+-- The join of a list depends on the set of its classes alone.
 pub join-collect : (o : Op) (ps : List Class) → joinAll o (members (collect ps)) ≡ joinAll o ps
 unfolding collect keep has insert
 join-collect o [] = refl
 join-collect o (k ∷ ps) =
     join-more o (collect ps) (insert (collect ps) k) k (has-setOf (λ c. has (collect ps) c || same k c)) ∙ ap (join o k) (join-collect o ps)
     ∙ sym (joinAll-cons o k ps)
-
-pub gate-collect : (d : Kind) (ps : List Class) → gateClass d (members (collect ps)) ≡ gateClass d ps
-gate-collect d ps =
-    gateClass-op d (members (collect ps)) ∙ ap (invertIf (inverts d)) (join-collect (opOf d) ps) ∙ sym (gateClass-op d ps)

@@ -24,7 +24,7 @@ pub nested : (f : Class → Bool) → setOf f ≡ nest f classes
 unfolding setOf nest
 nested f = omega arith
 
-bit-lt : (b : Bool) → bit b < 2
+pub bit-lt : (b : Bool) → bit b < 2
 bit-lt true = omega arith
 bit-lt false = omega arith
 
@@ -75,7 +75,7 @@ has-or m n k =
     ∙ or-digits (m / 2 ^ code k % 2) (n / 2 ^ code k % 2) (omega arith) (omega arith)
 
 -- some class passes one of two tests
-some-or : (f g : Class → Bool) (ks : List Class) → some (λ k. f k || g k) ks ≡ (some f ks || some g ks)
+pub some-or : (f g : Class → Bool) (ks : List Class) → some (λ k. f k || g k) ks ≡ (some f ks || some g ks)
 unfolding some
 some-or f g [] = refl
 some-or f g (k ∷ ks) = ap (λ b. (f k || g k) || b) (some-or f g ks) ∙ exchange (f k) (g k) (some f ks) (some g ks)

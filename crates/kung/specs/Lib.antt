@@ -4,3 +4,5 @@ pub mod Operation
 pub mod Sets
 pub mod Members
 pub mod Tables
+pub mod Gates
+pub mod Lookup

@@ -3,11 +3,10 @@ use Prim.Native.Nat.{ℕ, zero, suc, _+_, _*_, _/_, _%_}
 use mathlib.Core.Bool.{Bool, true, false, cond}
 use mathlib.Core.List.{List, [], _∷_}
 use lib.Dec.{ltb}
-use Rattle.kung.specs.Class.{Class, code, classes, ofCode}
-use Rattle.kung.specs.Rule.{some, kindOf, gateClass}
+use Rattle.kung.specs.Class.{Class, classes, ofCode}
+use Rattle.kung.specs.Rule.{some}
 use Rattle.kung.specs.Operation.{Op, join, opAt}
 use Rattle.kung.specs.Sets.{setOf, has, image}
-use Rattle.kung.specs.Members.{members}
 
 -- f i, f (i + 1), and so on: n numbers
 unfoldable pub tab : (ℕ → ℕ) → ℕ → ℕ → List ℕ
@@ -43,13 +42,3 @@ halfSet i = cond (ltb (i % 32) 16) (i % 16) (i % 16 * 16)
 
 unfoldable pub wantedRule : ℕ → ℕ
 wantedRule i = blockRule (i / 32) (halfSet i)
-
-unfoldable pub wantedTable : List ℕ
-wantedTable = tab wantedRule 0 576
-
--- a gate's class by its kind and the set of its pins' classes: kinds 0 to 7, 256 sets
-unfoldable pub gateRule : ℕ → ℕ
-gateRule i = code (gateClass (kindOf (i / 256)) (members (i % 256)))
-
-unfoldable pub gateTable : List ℕ
-gateTable = tab gateRule 0 2048

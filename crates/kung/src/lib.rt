@@ -1,12 +1,14 @@
 // Kung's eight classes: joins and sets of classes as bytes, looked up in tables that are lent.
 ghost use mathlib.Core.Path.{_≡_};
 ghost use Rattle.kung.specs.Class.{code, ofCode};
-ghost use Prim.Native.Nat.{_%_, _<_};
-ghost use Rattle.kung.specs.Rule.{invert, kindOf, gateClass};
+ghost use Prim.Native.Nat.{_+_, _*_, _/_, _<_};
+ghost use Rattle.kung.specs.Rule.{invert};
 ghost use Rattle.kung.specs.Operation.{join, opAt};
-ghost use Rattle.kung.specs.Sets.{image, possible, wantedFor};
+ghost use Rattle.kung.specs.Sets.{image, possible};
 ghost use Rattle.kung.specs.Members.{insert, swapIf, onlyCode, members};
-ghost use Rattle.kung.specs.Tables.{imageTable, wantedTable, gateTable, preimage, reach, imagePlace, blockRule};
+ghost use Rattle.kung.specs.Tables.{imageTable, preimage, reach, imagePlace, blockRule};
+ghost use Rattle.kung.specs.Lookup.{lookupTable, joinedBy, stopSet};
+ghost use Rattle.kung.specs.Gates.{gateAt, gateTable, unite};
 
 fn wide(x: u8) -> usize
     ensures { λ r. ⌜ r ≡ x ⌝ }
@@ -14,7 +16,7 @@ fn wide(x: u8) -> usize
     x as usize
 }
 
-// An entry's place in the table of images and of preimages.
+// An entry's place in the table of images.
 fn place(operation: u8, p: u8, set: u8) -> usize
     ensures { λ r. ⌜ r ≡ imagePlace operation p set ⌝ }
 {
@@ -87,52 +89,65 @@ pub fn possible_set(table: &[u8; 4096], operation: u8, inverted: bool, p: u8, le
     }
 }
 
+// What the waiting gate makes of a class: the join with its p, or the class itself where nobody waits.
+pub fn joined_by(lookup: &[u8; 780], waiter: u8, class: u8) -> u8
+    requires { ⌜ (now lookup ≡ lookupTable) × (waiter < 17) ⌝ }
+    ensures { λ r. ⌜ r ≡ code (joinedBy waiter (ofCode class)) ⌝ }
+{
+    lookup[wide(waiter) * 8 + wide(class % 8)]
+}
+
+// Where a block's entry stands in the table of the search.
+fn entry_in(block: usize, entry: u8) -> usize
+    requires { ⌜ block < 18 ⌝ }
+    ensures { λ r. ⌜ r ≡ 204 + block * 32 + entry ⌝ }
+{
+    204 + block * 32 + wide(entry)
+}
+
 // What a block has for a set: the union of what it has for the set's halves.
-fn in_block(table: &[u8; 576], block: usize, set: u8) -> u8
-    requires { ⌜ (now table ≡ wantedTable) × (block < 18) ⌝ }
+fn in_block(lookup: &[u8; 780], block: usize, set: u8) -> u8
+    requires { ⌜ (now lookup ≡ lookupTable) × (block < 18) ⌝ }
     ensures { λ r. ⌜ r ≡ blockRule block set ⌝ }
 {
-    table[block * 32 + wide(set % 16)] | table[block * 32 + (16 + wide(set / 16))]
+    lookup[entry_in(block, set % 16)] | lookup[entry_in(block, 16 + set / 16)]
 }
 
-fn preimage_of(table: &[u8; 576], operation: u8, p: u8, set: u8) -> u8
-    requires { ⌜ now table ≡ wantedTable ⌝ }
-    ensures { λ r. ⌜ r ≡ preimage (opAt operation) (ofCode p) set ⌝ }
+// The classes that the waiting gate's p joins into the set.
+pub fn preimage_of(lookup: &[u8; 780], waiter: u8, set: u8) -> u8
+    requires { ⌜ (now lookup ≡ lookupTable) × (waiter < 16) ⌝ }
+    ensures { λ r. ⌜ r ≡ preimage (opAt (waiter / 8)) (ofCode waiter) set ⌝ }
 {
-    in_block(table, wide(operation % 2) * 8 + wide(p % 8), set)
+    in_block(lookup, wide(waiter), set)
 }
 
-fn reach_of(table: &[u8; 576], operation: u8, set: u8) -> u8
-    requires { ⌜ now table ≡ wantedTable ⌝ }
+// The classes that some further class joins into the set.
+pub fn reach_of(lookup: &[u8; 780], operation: u8, set: u8) -> u8
+    requires { ⌜ now lookup ≡ lookupTable ⌝ }
     ensures { λ r. ⌜ r ≡ reach (opAt operation) set ⌝ }
 {
-    in_block(table, 16 + wide(operation % 2), set)
+    in_block(lookup, 16 + wide(operation % 2), set)
 }
 
-// The classes that the gate behind the next pin may have; `more` where pins are left after that one.
-pub fn wanted_set(
-    table: &[u8; 576],
-    operation: u8,
-    inverted: bool,
-    p: u8,
-    more: bool,
-    wanted: u8,
-) -> u8
-    requires { ⌜ now table ≡ wantedTable ⌝ }
-    ensures { λ r. ⌜ r ≡ wantedFor (opAt operation) inverted (ofCode p) more wanted ⌝ }
+// The p with which the checks end a gate's visit while pins are left; `reach` is the reach of its wanted set before inversion.
+pub fn stop_bits(lookup: &[u8; 780], waiter: u8, gate: u8, reach: u8) -> u8
+    requires { ⌜ (now lookup ≡ lookupTable) × (waiter < 17) × (gate < 4) ⌝ }
+    ensures { λ r. ⌜ r ≡ stopSet waiter gate reach ⌝ }
 {
-    let set = preimage_of(table, operation, p, swapped(inverted, wanted));
-    if more {
-        reach_of(table, operation, set)
-    } else {
-        set
-    }
+    (255 - reach) | lookup[136 + wide(waiter) * 4 + wide(gate)]
 }
 
-// A gate's class by its kind byte and the set of its pins' classes.
-pub fn gate_class(table: &[u8; 2048], kind: u8, set: u8) -> u8
+// The classes of one set or the other.
+pub fn union(a: u8, b: u8) -> u8
+    ensures { λ r. ⌜ r ≡ unite a b ⌝ }
+{
+    a | b
+}
+
+// A gate's class by its operation and inversion, of which a larger number's last two bits tell, and the set of its pins' classes.
+pub fn gate_class(table: &[u8; 1024], gate: u8, set: u8) -> u8
     requires { ⌜ now table ≡ gateTable ⌝ }
-    ensures { λ r. ⌜ r ≡ code (gateClass (kindOf (kind % 8)) (members set)) ⌝ }
+    ensures { λ r. ⌜ r ≡ code (gateAt gate (members set)) ⌝ }
 {
-    table[wide(kind % 8) * 256 + wide(set)]
+    table[wide(gate % 4) * 256 + wide(set)]
 }

@@ -32,11 +32,11 @@ abbrev pub refused : (number place : ℕ) → Answer
 refused number place = record { number = number; words = place ∷ 0 ∷ 0 ∷ 0 ∷ 0 ∷ [] }
 
 unfoldable pub netlistAnswer : Checked → Answer
-netlistAnswer (netlist.Accepted inputs gates outputs pins entries) = accepted inputs gates outputs pins entries
+netlistAnswer (netlist.Accepted shape) = accepted (shape .inputs) (shape .gates) (shape .outputs) (shape .pins) (shape .entries)
 netlistAnswer (netlist.Refused number place) = refused number place
 
 unfoldable pub listAnswer : Listed → Answer
-listAnswer (list.Accepted inputs gates outputs pins entries changes width) = accepted changes width 0 0 0
+listAnswer (list.Accepted task) = accepted (task .changes) (task .width) 0 0 0
 listAnswer (list.Refused number place) = refused number place
 
 unfoldable pub simulatedAnswer : Simulated → Answer
@@ -79,7 +79,7 @@ pub record AllJudged (m : Method) (n l : List ℕ) (entry exit : List ℕ) (numb
 
 -- opening a walk: where it starts, by number and place, and how many records it has to hand back
 unfoldable pub openedAnswer : Checked → (number place count : ℕ) → Answer
-openedAnswer (netlist.Accepted inputs gates outputs pins entries) number place count = accepted number place count 0 0
+openedAnswer (netlist.Accepted shape) number place count = accepted number place count 0 0
 openedAnswer (netlist.Refused refusal at) number place count = refused refusal at
 
 abbrev pub startAnswer : Start → Answer

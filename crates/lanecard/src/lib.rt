@@ -54,14 +54,15 @@ pub extern "C" fn lane_netlist(netlist: &[u8], answer: &mut [u64; 5]) -> u32
     let checked = netlist::check(netlist);
     match checked {
         Checked::Refused(number, place) => refuse(answer, number, place),
-        Checked::Accepted {
-            inputs,
-            gates,
-            outputs,
-            pins,
-            entries,
-        } => {
-            put(answer, inputs, gates, outputs, pins, entries);
+        Checked::Accepted(shape) => {
+            put(
+                answer,
+                shape.inputs,
+                shape.gates,
+                shape.outputs,
+                shape.pins,
+                shape.entries,
+            );
             0
         }
     }
@@ -74,16 +75,8 @@ pub extern "C" fn lane_list(netlist: &[u8], list: &[u8], answer: &mut [u64; 5]) 
     let listed = changes::check(netlist, list);
     match listed {
         Listed::Refused(number, place) => refuse(answer, number, place),
-        Listed::Accepted {
-            inputs: _,
-            gates: _,
-            outputs: _,
-            pins: _,
-            entries: _,
-            changes,
-            width,
-        } => {
-            put(answer, changes, width, 0, 0, 0);
+        Listed::Accepted(task) => {
+            put(answer, task.changes, task.width, 0, 0, 0);
             0
         }
     }
@@ -218,13 +211,7 @@ pub extern "C" fn lane_walk(netlist: &[u8], answer: &mut [u64; 5]) -> u32
     let checked = start.checked;
     match checked {
         Checked::Refused(number, place) => refuse(answer, number, place),
-        Checked::Accepted {
-            inputs: _,
-            gates: _,
-            outputs: _,
-            pins: _,
-            entries: _,
-        } => {
+        Checked::Accepted(_) => {
             put(answer, start.number, start.place, start.count, 0, 0);
             0
         }

@@ -6,13 +6,12 @@ use native.Mathlib.Numerals.{add-one, one-add}
 use mathlib.Core.Path.{_≡_, refl, ap, ap₂}
 use mathlib.Core.List.{List, _++_, append-assoc, append-nil}
 use lib.ListN.{length, length-append}
+use Rattle.changes.specs.declared.Task.{Task}
 use Rattle.changes.specs.declared.Listed.{Listed}
-use Rattle.changes.specs.declared.Listed.the-variants.{Accepted, Refused}
+use Rattle.changes.specs.declared.Listed.the-variants.{Accepted}
 use Rattle.report.specs.Appended.{Appended}
 use Rattle.report.proofs.Appending.{_then_, kept}
-use Rattle.listing.specs.declared.Sizes.{Sizes}
 use Rattle.listing.specs.Listing.{texts, printedChanges}
-use Rattle.listing.specs.Lent.{sizesOf}
 
 module _ (f : ℕ → List ℕ) (i : ℕ) where
   -- more texts are no shorter
@@ -63,15 +62,7 @@ unfolding texts
 texts-same f g i zero h = refl
 texts-same f g i (suc n) h = ap₂ _++_ (texts-same f g i n (λ k l. h k (omega arith))) (h n (omega arith))
 
--- where there are changes, the list is accepted
-pub accepted : (listed : Listed) (sizes : Sizes) (change : ℕ) → sizes ≡ sizesOf listed → change < sizes .changes
-    → (pins : ℕ) × (listed ≡ Accepted (sizes .inputs) (sizes .gates) (sizes .outputs) pins (sizes .entries) (sizes .changes) (sizes .width))
-unfolding sizesOf
-accepted (Refused number place) sizes change e h = absurd (omega (arith, ap (λ s. s .changes) e))
-accepted (Accepted i g o p s t w) sizes change e h = (p, rw e)
-
--- the changes among the sizes are those to print
-pub changes-are : (listed : Listed) (sizes : Sizes) → sizes ≡ sizesOf listed → sizes .changes ≡ printedChanges listed
-unfolding sizesOf printedChanges
-changes-are (Refused number place) sizes e = ap (λ s. s .changes) e
-changes-are (Accepted i g o p s t w) sizes e = ap (λ s. s .changes) e
+-- the changes of an accepted list are those to print
+pub changes-are : {listed : Listed} {task : Task} → listed ≡ Accepted task → printedChanges listed ≡ task .changes
+unfolding printedChanges
+changes-are e = ap printedChanges e

@@ -118,3 +118,8 @@ module _ (n l : List ℕ) where
       → page (changeLines n l) (printedChanges (listChecked n l) - t) t (length a - at) ≡ empty (Change t)
       → Written (pieceOf n l (length a) (Change from)) a b (record { length = at; next = Change t })
   grown-all {t = t} g end = rw (g .rest, end, append-nil) (written (Change t) (g .there))
+
+  -- nothing is left to print
+  pub written-none : (entry : List ℕ) (from : ℕ) → printedChanges (listChecked n l) ≤ from
+      → Written (pieceOf n l (length entry) (Change from)) entry entry (record { length = 0; next = Change from })
+  written-none entry from h = grown-all (grown-none entry from) (page-none (changeLines n l) _ from _ (omega arith))

@@ -1,110 +1,102 @@
 -- The lines of a change of an accepted list: what they are made from, and the room that they take. Assumes nothing.
-use Prim.Native.Nat.{ℕ, _+_, _≤_, _<_}
+use Prim.Native.Nat.{ℕ, _+_, _*_, _%_, _≤_, _<_}
 use native.Mathlib.Omega.{arith}
-use mathlib.Core.Path.{_≡_, sym, _∙_, ap, subst}
+use mathlib.Core.Path.{_≡_, refl, _∙_, ap, ap₂}
 use mathlib.Core.List.{List, _++_}
-use lib.ListN.{length, getD, length-append, List·getD-append}
-use Rattle.kung.specs.Class.{Class, ofCode}
-use Rattle.kung.specs.Sets.{cleanSet}
+use lib.Dec.{eqb}
+use lib.ListN.{length, getD, List·getD-append}
+use Rattle.kung.specs.Class.{Class, c0, classes, code, ofCode}
 use Rattle.kung.proofs.Finite.{ofCode-code}
-use Rattle.netlist.specs.Netlist.{inputsOf, outputsOf, outputAt}
+use Rattle.kung.specs.Sets.{cleanSet}
+use Rattle.rows.specs.Rows.{outputIn}
+use Rattle.netlist.specs.Netlist.{inputsOf, gatesOf, outputsOf, outputAt}
 use Rattle.netlist.specs.Formed.{Formed}
-use Rattle.netlist.proofs.Accepted.{formed}
-use Rattle.changes.specs.declared.Listed.the-variants.{Accepted}
+use Rattle.changes.specs.declared.Task.{Task}
 use Rattle.changes.specs.Changes.{widthOf, inputClassAt, sourcesOf}
-use Rattle.changes.specs.Refusals.{listChecked}
 use Rattle.changes.specs.Formed.{ListFormed}
-use Rattle.changes.proofs.Accepted.{listed}
+use Rattle.changes.specs.Lent.{Accepts, signalsOf}
 use Rattle.simulate.specs.Full.{codes, classIn}
-use Rattle.simulate.specs.Pass.{Classifiable}
-use Rattle.simulate.proofs.Answers.{ready}
 use Rattle.simulate.proofs.Theorems.{codes-length, codes-at}
-use Rattle.search.specs.Search.{search}
-use Rattle.visit.specs.Source.{sourceFrom}
-use Rattle.visit.specs.Lent.{inputsKnown, GatesOnly}
+use Rattle.search.specs.Search.{Verdict, clean, hazardous, search}
+use Rattle.visit.specs.Lent.{inputsKnown}
 use Rattle.core.specs.Core.{searchOf}
-use Rattle.core.proofs.Cards as cards
-use Rattle.core.proofs.Entry.{known-length, search-is}
+use Rattle.core.specs.Outputs.{verdictByte, searchFrom}
+use Rattle.core.proofs.Entry as entry
 use Rattle.core.proofs.Theorems.{pins-within, gates-within}
 use Rattle.report.specs.Text.{verdictLine}
-use Rattle.listing.specs.declared.Sizes.{Sizes}
-use Rattle.listing.specs.Listing.{texts, isClean, outputLine, changeLines}
-use Rattle.listing.specs.Lent.{sizesOf, lineFrom, Lined, Tabled}
-use Rattle.listing.proofs.Laws.{texts-high, texts-same, accepted}
 use Rattle.report.proofs.Lengths.{verdict-length}
+use Rattle.listing.specs.Listing.{texts, isClean, outputLine, changeLines}
+use Rattle.listing.specs.Lent.{Lined, textIn}
+use Rattle.listing.proofs.Laws.{texts-high, texts-same}
 
-module _ (n l : List ℕ) {sizes : Sizes} (sizes-are : sizes ≡ sizesOf (listChecked n l)) (change : ℕ) (early : change < sizes .changes) where
-  -- the inputs' classes
-  abbrev v : ℕ → Class
-  v = inputClassAt l (widthOf (inputsOf n)) change
+clean-byte : (v : Verdict) → eqb (verdictByte v) 0 ≡ isClean v
+clean-byte (clean k) = refl
+clean-byte hazardous = refl
 
-  abbrev pins : ℕ
-  pins = accepted (listChecked n l) sizes change sizes-are early .0
+-- a number's last byte says the class
+kept-class : (k : Class) → ofCode (code k % 256) ≡ k
+unfolding ofCode
+kept-class k = let e : code k % 256 % 8 ≡ code k % 8 = omega arith in ap (λ i. getD classes i c0) e ∙ ofCode-code k
 
-  is : listChecked n l ≡ Accepted (sizes .inputs) (sizes .gates) (sizes .outputs) pins (sizes .entries) (sizes .changes) (sizes .width)
-  is = accepted (listChecked n l) sizes change sizes-are early .1
+module _ (n l rows : List ℕ) (task : Task) (a : Accepts n l rows task) (change : ℕ) (early : change < task .changes) where
+  list-formed : ListFormed n l task
+  list-formed = entry.list-formed n l rows task a change
 
-  pub list-formed : ListFormed n l (sizes .inputs) (sizes .gates) (sizes .outputs) pins (sizes .entries) (sizes .changes) (sizes .width)
-  list-formed = listed n l is
+  card-formed : Formed n (task .shape)
+  card-formed = entry.card-formed n l rows task a change
 
-  pub card-formed : Formed n (sizes .inputs) (sizes .gates) (sizes .outputs) pins (sizes .entries)
-  card-formed = formed n (list-formed .netlist-accepted)
-
-  -- the change can be simulated in 2,304 bytes
-  pub simulates : Classifiable n l (sizes .inputs) (sizes .gates) (sizes .width) change 2304
-  simulates = ready n l is change 2304 early (omega (arith, card-formed .inputs-high, card-formed .gates-high))
-
-  codes-few : length (codes n l change) ≡ sizes .inputs + sizes .gates
-  codes-few = omega (arith, codes-length n l change, card-formed .inputs-are, card-formed .gates-are)
-
-  module _ (known classes rest : List ℕ) (known-are : known ≡ inputsKnown n v) (classes-are : classes ≡ codes n l change ++ rest) where
-    signals : length known ≡ sizes .inputs + sizes .gates
-    signals = ap length known-are ∙ known-length n card-formed v
-
-    pub lined : {images wanteds table places : List ℕ} → Tabled images wanteds table n l places sizes → Lined images wanteds n places known classes sizes
-    lined {places = places} tabled =
-        record {
-          ready =
-              cards.ready n places (tabled .rest) (tabled .images-are) (tabled .wanteds-are) card-formed (tabled .places-are)
-              (subst (GatesOnly n) (sym known-are) (cards.inputs-only n v));
-          entries-are = card-formed .entries-are;
-          below = λ o h. omega (arith, signals, card-formed .output-below o h);
-          classed = omega (arith, signals, codes-few, ap length classes-are, length-append (codes n l change) rest);
-          known-high = omega (arith, signals, card-formed .inputs-high, card-formed .gates-high);
-        }
-
-    line-same : (o : ℕ) → o < sizes .outputs → lineFrom n known classes change o ≡ outputLine n l change o
-    unfolding lineFrom outputLine searchOf
+  -- the numbers that are kept of the outputs make their lines
+  module _ (known classes rest lines : List ℕ) (known-are : known ≡ inputsKnown (inputsOf n) (gatesOf n) (inputClassAt l (widthOf (inputsOf n)) change))
+      (classes-are : classes ≡ codes n l change ++ rest) (lined : Lined rows known classes (signalsOf (task .shape)) lines (task .shape .outputs)) where
+    line-same : (o : ℕ) → o < task .shape .outputs → textIn lines change o ≡ outputLine n l change o
+    unfolding textIn outputLine searchOf searchFrom
     line-same o h =
-        λ i. verdictLine change o (class i) (isClean (answer i .verdict)) (answer i .gates) (answer i .pins)
+        let k = lined .each o h in
+        λ i. verdictLine change o (class i) (verdict i) ((k .gates-are ∙ ap (λ a. a .gates) answer) i) ((k .pins-are ∙ ap (λ a. a .pins) answer) i)
       where
-        class : ofCode (getD classes (outputAt n o) 0) ≡ classIn n l change (outputAt n o)
+        s : ℕ
+        s = outputAt n o
+
+        at : outputIn rows (signalsOf (task .shape)) o ≡ s
+        at = entry.output-is n l rows task a change o h
+
+        below : s < inputsOf n + gatesOf n
+        below = let f = card-formed in omega (arith, f .output-below o h, f .inputs-are, f .gates-are)
+
+        class : ofCode (getD lines (4 * o) 0 % 256) ≡ classIn n l change s
         class =
-            ap ofCode
-            (ap (λ c. getD c (outputAt n o) 0) classes-are
-            ∙ List·getD-append (codes n l change) rest 0 (outputAt n o) (omega (arith, codes-few, card-formed .output-below o h))
-            ∙ codes-at n l change (outputAt n o) (omega (arith, card-formed .output-below o h, card-formed .inputs-are, card-formed .gates-are)))
-            ∙ ofCode-code (classIn n l change (outputAt n o))
+            ap (λ x. ofCode (x % 256))
+            (lined .each o h .class-is
+            ∙ ap₂ (λ c s. getD c s 0) classes-are at
+            ∙ List·getD-append (codes n l change) rest 0 s (omega (arith, below, codes-length n l change))
+            ∙ codes-at n l change s below)
+            ∙ kept-class (classIn n l change s)
 
-        answer : search (sourceFrom n known) cleanSet (outputAt n o) ≡ search (sourcesOf n l change) cleanSet (outputAt n o)
-        answer = ap (λ k. search (sourceFrom n k) cleanSet (outputAt n o)) known-are ∙ search-is n l change cleanSet (outputAt n o)
+        answer : searchFrom rows known (signalsOf (task .shape)) o ≡ searchOf n l change o
+        answer =
+            entry.search-is n l rows task a change known known-are cleanSet (outputIn rows (signalsOf (task .shape)) o)
+            ∙ ap (search (sourcesOf n l change) cleanSet) at
 
-    pub lines-same : texts (lineFrom n known classes change) 0 (sizes .outputs) ≡ changeLines n l change
+        verdict : eqb (getD lines (4 * o + 1) 0) 0 ≡ isClean (searchOf n l change o .verdict)
+        verdict = ap (λ b. eqb b 0) (lined .each o h .byte-is ∙ ap (λ a. verdictByte (a .verdict)) answer) ∙ clean-byte (searchOf n l change o .verdict)
+
+    pub lines-same : texts (textIn lines change) 0 (task .shape .outputs) ≡ changeLines n l change
     unfolding changeLines
     lines-same =
-        texts-same (lineFrom n known classes change) (outputLine n l change) 0 (sizes .outputs) (λ k h. line-same (0 + k) (omega arith))
+        texts-same (textIn lines change) (outputLine n l change) 0 (task .shape .outputs) (λ k h. line-same (0 + k) (omega arith))
         ∙ ap (texts (outputLine n l change) 0) (card-formed .outputs-are)
 
   pub lines-high : length (changeLines n l change) ≤ 3072
   unfolding changeLines outputLine
   lines-high =
+      let f = card-formed in
       omega (
         arith,
         texts-high (outputLine n l change) 0 48 (outputsOf n)
             (λ k h.
-            verdict-length change (0 + k) _ _ _ _ (omega (arith, list-formed .changes-high)) (omega (arith, card-formed .outputs-are, card-formed .outputs-high))
-            (omega (arith, gates-within n l is change (0 + k), pins-within n l is change (0 + k), card-formed .pins-high, card-formed .gates-high))
-            (omega (arith, pins-within n l is change (0 + k), card-formed .pins-high, card-formed .gates-high))),
-        card-formed .outputs-are,
-        card-formed .outputs-high,
+            verdict-length change (0 + k) _ _ _ _ (omega (arith, list-formed .changes-high)) (omega (arith, f .outputs-are, f .outputs-high))
+            (omega (arith, gates-within n l (a .accepted) change (0 + k), pins-within n l (a .accepted) change (0 + k), f .pins-high, f .gates-high))
+            (omega (arith, pins-within n l (a .accepted) change (0 + k), f .pins-high, f .gates-high))),
+        f .outputs-are,
+        f .outputs-high,
       )

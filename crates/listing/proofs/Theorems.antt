@@ -10,9 +10,11 @@ use borrow.Author.Tests.{le-ltb}
 use lib.Dec.{ltb}
 use lib.ListN.{length, drop, length-append}
 use Rattle.netlist.specs.Netlist.{outputsOf}
+use Rattle.netlist.proofs.Accepted.{formed}
 use Rattle.changes.specs.declared.Listed.{Listed}
 use Rattle.changes.specs.declared.Listed.the-variants.{Accepted, Refused}
 use Rattle.changes.specs.Refusals.{listChecked}
+use Rattle.changes.proofs.Accepted.{listed}
 use Rattle.report.specs.Text.{countsLine, verdictLine, refusalLine}
 use Rattle.report.proofs.Lengths.{line-some}
 use Rattle.listing.specs.declared.Progress.{Progress}
@@ -20,10 +22,8 @@ use Rattle.listing.specs.declared.Progress.the-variants.{Start, Change}
 use Rattle.listing.specs.declared.Piece.{Piece}
 use Rattle.listing.specs.Listing.{texts, outputLine, changeLines, firstLine, printedChanges, printed}
 use Rattle.listing.specs.Pieces.{Portion, empty, pieceOf, Written, Pieces, last, more, AllPrinted}
-use Rattle.listing.specs.Lent.{sizesOf}
-use Rattle.listing.proofs.Laws.{texts-join, texts-some, changes-are}
+use Rattle.listing.proofs.Laws.{texts-join, texts-some}
 use Rattle.listing.proofs.Pages.{page-none, reached}
-use Rattle.listing.proofs.Prepared.{card-formed}
 
 -- a piece is inside the buffer
 pub inside : {piece : Portion} {entry exit : List ℕ} {r : Piece} → Written piece entry exit r → length exit ≡ length entry → r .length ≤ length exit
@@ -41,15 +41,16 @@ module _ (n l : List ℕ) where
 
   -- each has a line, since an accepted card has an output
   lines-some : (t : ℕ) → t < T → 1 ≤ length (changeLines n l t)
-  unfolding changeLines texts
-  lines-some t early =
-      let sizes = sizesOf (listChecked n l) in
-      let card = card-formed n l {sizes = sizes} refl t (omega (arith, changes-are (listChecked n l) sizes refl)) in
-      go (outputsOf n) (omega (arith, card .outputs-low, card .outputs-are))
+  unfolding changeLines texts printedChanges
+  lines-some t early = find (listChecked n l) refl (omega arith)
     where
       go : (outputs : ℕ) → 1 ≤ outputs → 1 ≤ length (texts (outputLine n l t) 0 outputs)
       go zero h = absurd (omega arith)
       go (suc k) h = simp length-append (omega (arith, output-some t (0 + k)))
+
+      find : (listed : Listed) → listChecked n l ≡ listed → t < printedChanges listed → 1 ≤ length (texts (outputLine n l t) 0 (outputsOf n))
+      find (Refused number place) e h = absurd (omega arith)
+      find (Accepted task) e h = let f = formed n (listed n l e .netlist-accepted) in go (outputsOf n) (omega (arith, f .outputs-low, f .outputs-are))
 
   first-some : 1 ≤ length (firstLine (listChecked n l))
   unfolding firstLine refusalLine countsLine
@@ -57,7 +58,7 @@ module _ (n l : List ℕ) where
     where
       go : (listed : Listed) → 1 ≤ length (firstLine listed)
       go (Refused number place) = line-some _ _
-      go (Accepted i g o p s t w) = line-some _ _
+      go (Accepted task) = line-some _ _
 
   -- what is left to print falls with each piece that is not empty
   abbrev pub left : Progress → ℕ

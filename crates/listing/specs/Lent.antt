@@ -1,55 +1,59 @@
 -- What only the code and its proofs need: what the functions behind a piece are lent and hand on.
-use Prim.Native.Nat.{ℕ, _≤_, _<_}
+use Prim.Native.Nat.{ℕ, _+_, _*_, _%_, _≤_, _<_}
 use mathlib.Core.Path.{_≡_}
 use mathlib.Core.List.{List, _++_}
-use lib.ListN.{length, getD}
-use Rattle.kung.specs.Class.{ofCode}
-use Rattle.kung.specs.Sets.{cleanSet}
-use Rattle.kung.specs.Tables.{gateTable, imageTable, wantedTable}
-use Rattle.netlist.specs.Netlist.{entriesAt, outputAt}
-use Rattle.netlist.specs.Index.{placesOf}
-use Rattle.changes.specs.declared.Listed.{Listed}
-use Rattle.changes.specs.declared.Listed.the-variants.{Accepted, Refused}
-use Rattle.changes.specs.Refusals.{listChecked}
-use Rattle.search.specs.Search as search
-use Rattle.visit.specs.declared.Verdict.{Verdict}
-use Rattle.visit.specs.declared.Verdict.the-variants.{Clean, Hazardous}
-use Rattle.visit.specs.Source.{sourceFrom}
-use Rattle.visit.specs.Lent.{SearchReady}
-use Rattle.report.specs.Text.{verdictLine}
-use Rattle.listing.specs.declared.Sizes.{Sizes}
-use Rattle.listing.specs.Listing.{isClean}
+use lib.Dec.{eqb}
+use lib.ListN.{getD, set, drop}
+use Rattle.rows.specs.Rows.{outputIn}
+use Rattle.changes.specs.declared.Task.{Task}
+use Rattle.changes.specs.Lent.{Accepts, signalsOf}
+use Rattle.changes.specs.Written.{inputCodes}
+use Rattle.sweep.specs.Sweep.{codesOf}
+use Rattle.visit.specs.declared.Found.{Found}
+use Rattle.core.specs.Outputs.{searchFrom, byteFrom}
+use Rattle.core.specs.Codes.{foundByte}
+use Rattle.report.specs.declared.Line.{Line}
+use Rattle.report.specs.Lines.{textOf}
 
--- the sizes that a check gives; on a refusal there is nothing
-unfoldable pub sizesOf : Listed → Sizes
-sizesOf (Refused number place) = record { inputs = 0; gates = 0; outputs = 0; entries = 0; changes = 0; width = 0 }
-sizesOf (Accepted inputs gates outputs pins entries changes width) =
-    record { inputs = inputs; gates = gates; outputs = outputs; entries = entries; changes = changes; width = width }
+-- what is found of an output, in four numbers from a place on
+abbrev pub keptAt : List ℕ → (at class : ℕ) → Found → List ℕ
+keptAt lines at class found = set (set (set (set lines at class) (at + 1) (foundByte (found .verdict))) (at + 2) (found .gates)) (at + 3) (found .pins)
 
--- what a verdict of the code says
-abbrev pub verdictOf : Verdict → search.Verdict
-verdictOf (Clean k) = search.clean (ofCode k)
-verdictOf Hazardous = search.hazardous
+-- the four numbers of output o say its class and what its search finds
+pub record Numbers (rows known classes : List ℕ) (n : ℕ) (lines : List ℕ) (o : ℕ) : Type 0 where
+  pub class-is : getD lines (4 * o) 0 ≡ getD classes (outputIn rows n o) 0
+  pub byte-is : getD lines (4 * o + 1) 0 ≡ byteFrom rows known n o
+  pub gates-are : getD lines (4 * o + 2) 0 ≡ (searchFrom rows known n o) .gates
+  pub pins-are : getD lines (4 * o + 3) 0 ≡ (searchFrom rows known n o) .pins
 
--- an output's line, from the known signals and the codes of all signals' classes
-unfoldable pub lineFrom : (netlist known classes : List ℕ) → (change output : ℕ) → List ℕ
-lineFrom n known classes change output =
-    let answer = search.search (sourceFrom n known) cleanSet (outputAt n output) in
-    verdictLine change output (ofCode (getD classes (outputAt n output) 0)) (isClean (answer .verdict)) (answer .gates) (answer .pins)
+-- those of the outputs below m of a card of n signals
+pub record Lined (rows known classes : List ℕ) (n : ℕ) (lines : List ℕ) (m : ℕ) : Type 0 where
+  pub each : (o : ℕ) → o < m → Numbers rows known classes n lines o
 
--- what the lines of a change are made from: a search can run, and each output has a class
-pub record Lined (images wanteds netlist places known classes : List ℕ) (sizes : Sizes) : Type 0 where
-  pub ready : SearchReady images wanteds netlist places known (sizes .inputs)
-  pub entries-are : sizes .entries ≡ entriesAt netlist
-  pub below : (o : ℕ) → o < sizes .outputs → outputAt netlist o < length known
-  pub classed : length known ≤ length classes
-  pub known-high : length known ≤ 2304
+-- the line of an output, from its four numbers
+abbrev pub lineIn : (lines : List ℕ) → (change output : ℕ) → Line
+lineIn lines change o =
+    record {
+      change = change;
+      output = o;
+      class = getD lines (4 * o) 0 % 256;
+      clean = eqb (getD lines (4 * o + 1) 0) 0;
+      gates = getD lines (4 * o + 2) 0;
+      pins = getD lines (4 * o + 3) 0;
+    }
 
--- the tables, and the places of an accepted netlist's records
-pub record Tabled (images wanteds table netlist list places : List ℕ) (sizes : Sizes) : Type 0 where
-  pub images-are : images ≡ imageTable
-  pub wanteds-are : wanteds ≡ wantedTable
-  pub table-is : table ≡ gateTable
-  pub sizes-are : sizes ≡ sizesOf (listChecked netlist list)
-  pub rest : List ℕ
-  pub places-are : places ≡ placesOf netlist (sizes .gates) ++ rest
+unfoldable pub textIn : (lines : List ℕ) → (change output : ℕ) → List ℕ
+textIn lines change o = textOf (lineIn lines change o)
+
+-- a change of an accepted card, to be simulated in so many bytes
+pub record Classifiable (list rows : List ℕ) (task : Task) (change room : ℕ) : Type 0 where
+  pub netlist : List ℕ
+  pub accepts : Accepts netlist list rows task
+  pub early : change < task .changes
+  pub enough : signalsOf (task .shape) ≤ room
+
+-- the classes of a change at the start of a buffer
+abbrev pub classesFrom : (list : List ℕ) → Task → (rows : List ℕ) → (change : ℕ) → (buffer : List ℕ) → List ℕ
+classesFrom l task rows change buffer =
+    let filled = inputCodes l (task .width) change (task .shape .inputs) ++ drop (task .shape .inputs) buffer in
+    codesOf rows filled (task .shape .inputs) (task .shape .gates) (signalsOf (task .shape)) ++ drop (signalsOf (task .shape)) filled

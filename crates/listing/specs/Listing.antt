@@ -34,12 +34,12 @@ changeLines n l change = texts (outputLine n l change) 0 (outputsOf n)
 -- "prints a line with the counts I, G, O, T"; "On a refusal it prints only the line `refused N at P`, N the number and P the place."
 unfoldable pub firstLine : Listed → List ℕ
 firstLine (Refused number place) = refusalLine number place
-firstLine (Accepted inputs gates outputs pins entries changes width) = countsLine inputs gates outputs changes
+firstLine (Accepted task) = countsLine (task .shape .inputs) (task .shape .gates) (task .shape .outputs) (task .changes)
 
 -- the changes to print: none on a refusal
 unfoldable pub printedChanges : Listed → ℕ
 printedChanges (Refused number place) = 0
-printedChanges (Accepted inputs gates outputs pins entries changes width) = changes
+printedChanges (Accepted task) = task .changes
 
 -- all that is printed
 unfoldable pub printed : (netlist list : List ℕ) → List ℕ

@@ -1,15 +1,21 @@
 // What the program prints, a piece at a time in a lent buffer: the first line, then the lines of as many changes as have room.
 ghost use mathlib.Core.Path.{_≡_};
-ghost use Prim.Native.Nat.{_+_, _≤_, _<_};
+ghost use Prim.Native.Nat.{_+_, _*_, _≤_, _<_};
 ghost use lib.ListN.{length};
+ghost use Rattle.kung.specs.Gates.{gateTable};
+ghost use Rattle.changes.specs.Lent.{Accepts, signalsOf};
 ghost use Rattle.changes.specs.Refusals.{listChecked};
+ghost use Rattle.core.specs.Lent.{OutputsReady};
 ghost use Rattle.report.specs.Appended.{Appended};
-ghost use Rattle.listing.specs.Listing.{texts, isClean, changeLines, firstLine};
+ghost use Rattle.listing.specs.Listing.{texts, firstLine};
 ghost use Rattle.listing.specs.Pieces.{pieceOf, Written};
-ghost use Rattle.listing.specs.Lent.{sizesOf, verdictOf, lineFrom, Lined, Tabled};
+ghost use Rattle.listing.specs.Lent.{keptAt, Lined, lineIn, textIn, Classifiable, classesFrom};
 use changes::Listed;
+use changes::Task;
 use core::CLEAN_SET;
-use visit::Verdict;
+use netlist::Shape;
+use report::Line;
+use visit::Found;
 
 // The most bytes of the first line.
 const LINE: usize = 64;
@@ -29,47 +35,6 @@ pub struct Piece {
     pub next: Progress,
 }
 
-// The sizes of an accepted card and its list; no changes on a refusal.
-struct Sizes {
-    inputs: usize,
-    gates: usize,
-    outputs: usize,
-    entries: usize,
-    changes: usize,
-    width: usize,
-}
-
-fn sizes_of(listed: Listed) -> Sizes
-    ensures { λ r. ⌜ r ≡ sizesOf listed ⌝ }
-{
-    match listed {
-        Listed::Refused(_, _) => Sizes {
-            inputs: 0,
-            gates: 0,
-            outputs: 0,
-            entries: 0,
-            changes: 0,
-            width: 0,
-        },
-        Listed::Accepted {
-            inputs,
-            gates,
-            outputs,
-            pins: _,
-            entries,
-            changes,
-            width,
-        } => Sizes {
-            inputs: inputs,
-            gates: gates,
-            outputs: outputs,
-            entries: entries,
-            changes: changes,
-            width: width,
-        },
-    }
-}
-
 // The line of the counts, or of the refusal.
 fn put_line(netlist: &[u8], list: &[u8], buffer: &mut [u8]) -> usize
     requires { ⌜ 64 ≤ length (now buffer) ⌝ }
@@ -77,15 +42,17 @@ fn put_line(netlist: &[u8], list: &[u8], buffer: &mut [u8]) -> usize
 {
     match changes::check(netlist, list) {
         Listed::Refused(number, place) => report::put_refusal(buffer, 0, number, place),
-        Listed::Accepted {
-            inputs,
-            gates,
-            outputs,
-            pins: _,
-            entries: _,
-            changes,
-            width: _,
-        } => report::put_counts(buffer, 0, inputs, gates, outputs, changes),
+        Listed::Accepted(task) => {
+            let shape = task.shape;
+            report::put_counts(
+                buffer,
+                0,
+                shape.inputs,
+                shape.gates,
+                shape.outputs,
+                task.changes,
+            )
+        }
     }
 }
 
@@ -104,178 +71,118 @@ fn put_first(netlist: &[u8], list: &[u8], buffer: &mut [u8]) -> Piece
     }
 }
 
-fn is_clean(verdict: Verdict) -> bool
-    ensures { λ r. ⌜ r ≡ isClean (verdictOf verdict) ⌝ }
+// What is found of an output: four numbers from a place on, its class, its byte (0 clean, 1 hazardous), gates and pins.
+fn keep_found(lines: &mut [u16], at: usize, class: u8, found: Found)
+    requires { ⌜ (at + 4 ≤ length (now lines)) × (found .gates ≤ 65535) × (found .pins ≤ 65535) ⌝ }
+    ensures { λ r. ⌜ now (lines .exit) ≡ keptAt (now (lines .entry)) at class found ⌝ }
 {
-    match verdict {
-        Verdict::Clean { class: _ } => true,
-        Verdict::Hazardous => false,
+    let verdict = found.verdict;
+    lines[at] = class as u16;
+    lines[at + 1] = core::byte_of(verdict) as u16;
+    lines[at + 2] = found.gates as u16;
+    lines[at + 3] = found.pins as u16;
+}
+
+// Searches all outputs of a change and keeps what is found, with the classes that full simulation gives.
+fn judge_outputs(
+    images: &[u8; 4096],
+    lookup: &[u8; 780],
+    rows: &[u16],
+    shape: Shape,
+    known: &[u8],
+    classes: &[u8],
+    lines: &mut [u16],
+)
+    requires { ⌜ OutputsReady (now images) (now lookup) (now rows) (now known) shape 64 ⌝ }
+    requires { ⌜ (length (now known) ≤ length (now classes)) × (256 ≤ length (now lines)) ⌝ }
+    ensures { λ r. ⌜ Lined (now (rows .entry)) (now (known .entry)) (now (classes .entry)) (signalsOf shape) (now (lines .exit)) (shape .outputs) ⌝ }
+{
+    let signals = shape.inputs + shape.gates;
+    let mut cells = [0u8; 2304];
+    for output in 0..shape.outputs {
+        let s = rows::output_of(rows, signals, output) as usize;
+        let found = visit::find(images, lookup, rows, known, &mut cells, CLEAN_SET, s);
+        keep_found(lines, 4 * output, classes[s], found);
     }
 }
 
-// The line of an output.
-fn put_output(
-    images: &[u8; 4096],
-    wanteds: &[u8; 576],
-    netlist: &[u8],
-    places: &[u16],
-    known: &[u8],
-    classes: &[u8],
-    cells: &mut [u8],
-    sizes: Sizes,
-    change: usize,
-    output: usize,
-    buffer: &mut [u8],
-    at: usize,
-) -> usize
-    requires { ⌜ Lined (now images) (now wanteds) (now netlist) (now places) (now known) (now classes) sizes ⌝ }
-    requires { ⌜ (output < sizes .outputs) × (length (now known) ≤ length (now cells)) ⌝ }
-    requires { ⌜ at + length (lineFrom (now netlist) (now known) (now classes) change output) ≤ length (now buffer) ⌝ }
-    ensures { λ r. ⌜ Appended (now (buffer .entry)) (now (buffer .exit)) at r (lineFrom (now (netlist .entry)) (now (known .entry)) (now (classes .entry)) change output) ⌝ }
+// The line of an output, from its four numbers.
+fn line_at(lines: &[u16], change: usize, output: usize) -> Line
+    requires { ⌜ 4 * output + 4 ≤ length (now lines) ⌝ }
+    ensures { λ r. ⌜ r ≡ lineIn (now (lines .entry)) change output ⌝ }
 {
-    let s = netlist::entry_at(netlist, sizes.entries, output) as usize;
-    let found = visit::find(
-        images,
-        wanteds,
-        netlist,
-        places,
-        known,
-        cells,
-        sizes.inputs,
-        CLEAN_SET,
-        s,
-    );
-    let verdict = found.verdict;
-    report::put_verdict(
-        buffer,
-        at,
+    let at = 4 * output;
+    Line {
         change,
         output,
-        classes[s],
-        is_clean(verdict),
-        found.gates,
-        found.pins,
-    )
+        class: (lines[at] % 256) as u8,
+        clean: lines[at + 1] == 0,
+        gates: lines[at + 2] as usize,
+        pins: lines[at + 3] as usize,
+    }
 }
 
-// The lines of all outputs.
-fn put_outputs(
-    images: &[u8; 4096],
-    wanteds: &[u8; 576],
-    netlist: &[u8],
-    places: &[u16],
-    known: &[u8],
-    classes: &[u8],
-    sizes: Sizes,
-    change: usize,
-    buffer: &mut [u8],
-    at: usize,
-) -> usize
-    requires { ⌜ Lined (now images) (now wanteds) (now netlist) (now places) (now known) (now classes) sizes ⌝ }
-    requires { ⌜ at + length (texts (lineFrom (now netlist) (now known) (now classes) change) 0 (sizes .outputs)) ≤ length (now buffer) ⌝ }
-    ensures { λ r. ⌜ Appended (now (buffer .entry)) (now (buffer .exit)) at r (texts (lineFrom (now (netlist .entry)) (now (known .entry)) (now (classes .entry)) change) 0 (sizes .outputs)) ⌝ }
+// The lines of a change's outputs.
+fn put_lines(lines: &[u16], change: usize, outputs: usize, buffer: &mut [u8], at: usize) -> usize
+    requires { ⌜ (outputs ≤ 64) × (256 ≤ length (now lines)) ⌝ }
+    requires { ⌜ at + length (texts (textIn (now lines) change) 0 outputs) ≤ length (now buffer) ⌝ }
+    ensures { λ r. ⌜ Appended (now (buffer .entry)) (now (buffer .exit)) at r (texts (textIn (now (lines .entry)) change) 0 outputs) ⌝ }
 {
-    let mut cells = [0u8; 2304];
     let mut next = at;
-    let mut output: usize = 0;
-    while output < sizes.outputs {
-        next = put_output(
-            images,
-            wanteds,
-            netlist,
-            places,
-            known,
-            classes,
-            &mut cells,
-            sizes,
-            change,
-            output,
-            buffer,
-            next,
-        );
-        output += 1;
+    for output in 0..outputs {
+        next = report::put_verdict(buffer, next, line_at(lines, change, output));
     }
     next
 }
 
-// The lines of a change: one simulation, and a search for each output.
-fn put_change(
-    images: &[u8; 4096],
-    wanteds: &[u8; 576],
-    table: &[u8; 2048],
-    netlist: &[u8],
+// The classes of a change.
+fn classify(
+    table: &[u8; 1024],
     list: &[u8],
-    places: &[u16],
-    sizes: Sizes,
+    task: Task,
+    rows: &[u16],
     change: usize,
-    buffer: &mut [u8],
-    at: usize,
-) -> usize
-    requires { ⌜ Tabled (now images) (now wanteds) (now table) (now netlist) (now list) (now places) sizes ⌝ }
-    requires { ⌜ (change < sizes .changes) × (at + 3072 ≤ length (now buffer)) ⌝ }
-    ensures { λ r. ⌜ Appended (now (buffer .entry)) (now (buffer .exit)) at r (changeLines (now (netlist .entry)) (now (list .entry)) change) ⌝ }
+    classes: &mut [u8],
+)
+    requires { ⌜ (now table ≡ gateTable) × Classifiable (now list) (now rows) task change (length (now classes)) ⌝ }
+    ensures { λ r. ⌜ now (classes .exit) ≡ classesFrom (now (list .entry)) task (now (rows .entry)) change (now (classes .entry)) ⌝ }
 {
-    let mut known = [8u8; 2304];
-    changes::fill_inputs(list, sizes.width, change, sizes.inputs, &mut known);
-    let mut classes = [0u8; 2304];
-    simulate::classify(
-        table,
-        netlist,
-        list,
-        sizes.inputs,
-        sizes.gates,
-        sizes.width,
-        change,
-        &mut classes,
-    );
-    let signals = sizes.inputs + sizes.gates;
-    put_outputs(
-        images,
-        wanteds,
-        netlist,
-        places,
-        &known[..signals],
-        &classes,
-        sizes,
-        change,
-        buffer,
-        at,
-    )
+    let shape = task.shape;
+    let mut hot = [0u8; 2304];
+    changes::fill_inputs(list, task, change, classes);
+    sweep::pass(table, rows, shape.inputs, shape.gates, &mut hot, classes);
 }
 
 // The lines of the changes from `from` on, until fewer bytes are left than a change may need.
 fn put_page(
-    images: &[u8; 4096],
-    wanteds: &[u8; 576],
-    table: &[u8; 2048],
     netlist: &[u8],
     list: &[u8],
-    places: &[u16],
-    sizes: Sizes,
+    task: Task,
+    rows: &[u16],
     from: usize,
     buffer: &mut [u8],
 ) -> Piece
-    requires { ⌜ Tabled (now images) (now wanteds) (now table) (now netlist) (now list) (now places) sizes ⌝ }
-    requires { ⌜ from < sizes .changes ⌝ }
+    requires { ⌜ Accepts (now netlist) (now list) (now rows) task × (from < task .changes) ⌝ }
     ensures { λ r. ⌜ Written (pieceOf (now (netlist .entry)) (now (list .entry)) (length (now (buffer .entry))) (Progress.Change from)) (now (buffer .entry)) (now (buffer .exit)) r ⌝ }
 {
+    let images = tables::images();
+    let lookup = tables::lookup();
+    let table = tables::gate_table();
+    let shape = task.shape;
+    let signals = shape.inputs + shape.gates;
+    let mut classes = [0u8; 2304];
+    let mut lines = [0u16; 256];
     let mut change = from;
     let mut at: usize = 0;
     while ROOM <= buffer.len() - at {
-        at = put_change(
-            images,
-            wanteds,
-            table,
-            netlist,
-            list,
-            places,
-            sizes,
-            change,
-            buffer,
-            at,
-        );
+        classify(&table, list, task, rows, change, &mut classes);
+        let mut known = [8u8; 2304];
+        changes::fill_inputs(list, task, change, &mut known);
+        let lent = &known[..signals];
+        judge_outputs(&images, &lookup, rows, shape, lent, &classes, &mut lines);
+        at = put_lines(&lines, change, shape.outputs, buffer, at);
         change += 1;
-        if change == sizes.changes {
+        if change == task.changes {
             break;
         }
     }
@@ -285,33 +192,24 @@ fn put_page(
     }
 }
 
-// The card is checked, its records are indexed and the tables are made once for a piece.
+// The card is checked and decoded, and the tables are made, once for a piece.
 fn put_changes(netlist: &[u8], list: &[u8], from: usize, buffer: &mut [u8]) -> Piece
     ensures { λ r. ⌜ Written (pieceOf (now (netlist .entry)) (now (list .entry)) (length (now (buffer .entry))) (Progress.Change from)) (now (buffer .entry)) (now (buffer .exit)) r ⌝ }
 {
-    let sizes = sizes_of(changes::check(netlist, list));
-    if sizes.changes <= from {
-        return Piece {
-            length: 0,
-            next: Progress::Change(from),
-        };
+    let mut rows = [0u16; 20800];
+    let nothing = Piece {
+        length: 0,
+        next: Progress::Change(from),
+    };
+    match changes::decode(netlist, list, &mut rows) {
+        Listed::Refused(_, _) => nothing,
+        Listed::Accepted(task) => {
+            if task.changes <= from {
+                return nothing;
+            }
+            put_page(netlist, list, task, &rows, from, buffer)
+        }
     }
-    let images = tables::images();
-    let wanteds = tables::wanted_table();
-    let table = tables::gate_table();
-    let mut places = [0u16; 2048];
-    netlist::fill_places(netlist, &mut places, sizes.gates);
-    put_page(
-        &images,
-        &wanteds,
-        &table,
-        netlist,
-        list,
-        &places,
-        sizes,
-        from,
-        buffer,
-    )
 }
 
 // Writes the next piece at the buffer's start: nothing more where all is printed, or where the buffer is too short for a piece.

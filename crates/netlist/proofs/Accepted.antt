@@ -2,7 +2,7 @@
 use Prim.Native.Nat.{ℕ, zero, suc, _+_, _*_, _≤_, _<_}
 use native.Mathlib.Omega.{arith}
 use native.Mathlib.Nat.{add-zero, zero-add}
-use mathlib.Core.Path.{_≡_}
+use mathlib.Core.Path.{_≡_, sym, ap}
 use mathlib.Core.Bool.{Bool, true, false, cond}
 use mathlib.Core.List.{List}
 use borrow.Author.Tests.{leb-false, ltb-false}
@@ -13,11 +13,12 @@ use Rattle.words.specs.Words.{wordAt, wordsAt}
 use Rattle.words.specs.Refusal.{refuse}
 use Rattle.words.proofs.Laws.{within}
 use Rattle.words.proofs.Refusal as words
+use Rattle.netlist.specs.declared.Shape.{Shape}
 use Rattle.netlist.specs.declared.Checked.{Checked}
 use Rattle.netlist.specs.declared.Checked.the-variants.{Accepted, Refused}
 use Rattle.netlist.specs.Netlist.{inputsOf, gatesOf, outputsOf, kindAt, countAt, pinAt, placeOf, pinsBelow, pinTotal, entriesAt, outputsEnd, cardOf}
 use Rattle.netlist.specs.Netlist.{wordsBelow, noKind, leastPins, mostPins, recordAt, recordsFrom}
-use Rattle.netlist.specs.Netlist.{opening, counts, outputs, accepted, body, bodyWithin, checkedWithin, checked}
+use Rattle.netlist.specs.Netlist.{opening, counts, outputs, shapeOf, accepted, body, bodyWithin, checkedWithin, checked}
 use Rattle.netlist.specs.Formed.{RecordFormed, Formed}
 use Rattle.netlist.proofs.Laws.{place-pins}
 
@@ -64,12 +65,12 @@ pins-high s gates r zero h = omega arith
 pins-high s gates r (suc g) h = omega (arith, pins-high s gates r g (omega arith), r g (omega arith) .count-eight)
 
 -- a chain of refusals that ends in acceptance was passed at each step
-module _ (i g o p e : ℕ) where
+module _ (shape : Shape) where
   abbrev Passed : Checked → Type 0
-  Passed answer = answer ≡ Accepted i g o p e
+  Passed answer = answer ≡ Accepted shape
 
   passed : (b : Bool) (number place : ℕ) (next : Checked) → Passed (refuse Refused b number place next) → (b ≡ false) × Passed next
-  passed b number place next = words.passed Refused b number place next (Accepted i g o p e) (λ d. let z : _≡_ {A = ℕ} 0 1 = cc in absurd (omega arith))
+  passed b number place next = words.passed Refused b number place next (Accepted shape) (λ d. let z : _≡_ {A = ℕ} 0 1 = cc in absurd (omega arith))
 
   words-passed : (n : ℕ) (s : List ℕ) (at bound number : ℕ) (next : Checked) → Passed (wordsBelow n s at bound number next)
       → ((k : ℕ) → k < n → wordAt s (at + 2 * k) < bound) × Passed next
@@ -126,8 +127,15 @@ module _ (i g o p e : ℕ) where
       let bytes = passed _ _ _ _ (below .1) in
       (below .0, omega (arith, ltb-false (length s) (outputsEnd s) (cut .0), ltb-false (outputsEnd s) (length s) (bytes .0)), bytes .1)
 
-  formed-within : (limit version : ℕ) (s : List ℕ) → Passed (checkedWithin limit version s) → Formed s i g o p e
-  unfolding checkedWithin opening counts bodyWithin body accepted cardOf
+  -- what follows the counts is accepted
+  pub body-accepted : (s : List ℕ) → Passed (checked s) → Passed (body s)
+  unfolding checked checkedWithin opening counts bodyWithin
+  body-accepted s h =
+      let mark = passed _ _ _ _ (passed _ _ _ _ (passed _ _ _ _ h .1) .1) in
+      passed _ _ _ _ (passed _ _ _ _ (passed _ _ _ _ (passed _ _ _ _ (mark .1) .1) .1) .1) .1
+
+  formed-within : (limit version : ℕ) (s : List ℕ) → Passed (checkedWithin limit version s) → Formed s shape
+  unfolding checkedWithin opening counts bodyWithin body accepted shapeOf cardOf
   formed-within limit version s h =
       let long = passed _ _ _ _ h in
       let mark = passed _ _ _ _ (long .1) in
@@ -138,12 +146,13 @@ module _ (i g o p e : ℕ) where
       let signals = passed _ _ _ _ (c .1) in
       let r = records-passed _ _ _ _ (signals .1) in
       let t = outputs-passed _ _ (r .1) in
-      let is : i ≡ inputsOf s = cc (t .2) in
-      let gs : g ≡ gatesOf s = cc (t .2) in
-      let os : o ≡ outputsOf s = cc (t .2) in
-      let es : e ≡ entriesAt s = cc (t .2) in
-      let ps : p ≡ pinTotal s = cc (t .2) in
-      let gate : (n : ℕ) → n < g → GateFormed s n = λ n h. rw zero-add at (r .0 n (omega arith)) in
+      let whole : shapeOf s ≡ shape = cc (t .2) in
+      let is : shape .inputs ≡ inputsOf s = ap (λ (x : Shape). x .inputs) (sym whole) in
+      let gs : shape .gates ≡ gatesOf s = ap (λ (x : Shape). x .gates) (sym whole) in
+      let os : shape .outputs ≡ outputsOf s = ap (λ (x : Shape). x .outputs) (sym whole) in
+      let ps : shape .pins ≡ pinTotal s = ap (λ (x : Shape). x .pins) (sym whole) in
+      let es : shape .entries ≡ entriesAt s = ap (λ (x : Shape). x .entries) (sym whole) in
+      let gate : (n : ℕ) → n < shape .gates → GateFormed s n = λ n h. rw zero-add at (r .0 n (omega arith)) in
       record {
         inputs-are = is;
         gates-are = gs;
@@ -160,10 +169,10 @@ module _ (i g o p e : ℕ) where
         well-formed = λ n h. each-word _ s _ _ (gate n (omega arith) .1);
         output-below = λ n h. omega (arith, t .0 n (omega arith));
         pins-high = rw (ps, gs) (pins-high s (gatesOf s) (λ n h. gate n (omega arith) .0) (gatesOf s) (omega arith));
-        place-high = λ n h. omega (arith, place-pins s n, pins-high s g (λ n h. gate n h .0) n h);
+        place-high = λ n h. omega (arith, place-pins s n, pins-high s (shape .gates) (λ n h. gate n h .0) n h);
         whole = omega (arith, t .1);
       }
 
-pub formed : {i g o p e : ℕ} (s : List ℕ) → checked s ≡ Accepted i g o p e → Formed s i g o p e
+pub formed : {shape : Shape} (s : List ℕ) → checked s ≡ Accepted shape → Formed s shape
 unfolding checked
-formed {i} {g} {o} {p} {e} s h = formed-within i g o p e 2304 1 s h
+formed {shape} s h = formed-within shape 2304 1 s h

@@ -1,5 +1,5 @@
 -- A record up to its pins, test by test, and as the first part of the record. Assumes nothing.
-use Prim.Native.Nat.{ℕ, _+_, _-_, _≤_, _<_}
+use Prim.Native.Nat.{ℕ, _+_, _*_, _≤_, _<_}
 use native.Mathlib.Omega.{arith}
 use mathlib.Core.Path.{_≡_, refl, _∙_}
 use mathlib.Core.Bool.{Bool, true, false}
@@ -8,13 +8,15 @@ use borrow.Author.Tests.{lt-ltb, le-ltb, ltb-false}
 use lib.ListN.{length}
 use Rattle.words.specs.Words.{outside}
 use Rattle.words.specs.Refusal.{refuse}
+use Rattle.words.proofs.Laws.{within}
 use Rattle.words.proofs.Refusal.{passed}
 use Rattle.netlist.specs.declared.Checked.{Checked}
 use Rattle.netlist.specs.declared.Checked.the-variants as netlist
 use Rattle.netlist.specs.declared.Head.{Head}
 use Rattle.netlist.specs.declared.Head.the-variants.{Pins, Refused}
 use Rattle.netlist.specs.Netlist.{kindAt, countAt, pastRecord, noKind, leastPins, mostPins, wordsBelow, recordAt}
-use Rattle.netlist.specs.Reading.{headAt}
+use Rattle.netlist.specs.Reading.{wordOf, headAt}
+use Rattle.netlist.proofs.Accepted.{least-some, most-eight}
 
 -- the tests in turn
 module _ (s : List ℕ) (at : ℕ) where
@@ -37,26 +39,41 @@ module _ (s : List ℕ) (at : ℕ) where
         unfolding headAt refuse
         head-cut h = rw (le-ltb (length s) (at + 2) two, kind, count, lt-ltb (length s) (pastRecord s at) h)
 
-        pub head-pins : pastRecord s at ≤ length s → Pins (countAt s at) ≡ headAt s at
+        pub head-pins : pastRecord s at ≤ length s → Pins (countAt s at) (wordOf s at) ≡ headAt s at
         unfolding headAt refuse
         head-pins h = rw (le-ltb (length s) (at + 2) two, kind, count, le-ltb (length s) (pastRecord s at) h)
 
 -- a head that is not refused
-pub head-told : {count : ℕ} (s : List ℕ) (at : ℕ) → headAt s at ≡ Pins count → (count ≡ countAt s at) × (pastRecord s at ≤ length s)
+pub record HeadTold (s : List ℕ) (at count word : ℕ) : Type 0 where
+  pub count-is : count ≡ countAt s at
+  pub word-is : word ≡ wordOf s at
+  pub count-some : 1 ≤ count
+  pub count-eight : count ≤ 8
+  pub room : at + 2 + 2 * count ≤ length s
+
+pub head-told : {count word : ℕ} (s : List ℕ) (at : ℕ) → headAt s at ≡ Pins count word → HeadTold s at count word
 unfolding headAt
-head-told {count} s at h =
+head-told {count} {word} s at h =
     let two = step _ _ _ _ h in
     let kind = step _ _ _ _ (two .1) in
     let fit = step _ _ _ _ (kind .1) in
     let room = step _ _ _ _ (fit .1) in
-    (cc (room .1), ltb-false _ _ (room .0))
+    let count-is : count ≡ countAt s at = cc (room .1) in
+    let c = within (leastPins (kindAt s at)) (mostPins (kindAt s at)) (countAt s at) (fit .0) in
+    record {
+      count-is = count-is;
+      word-is = cc (room .1);
+      count-some = omega (arith, c .0, least-some (kindAt s at));
+      count-eight = omega (arith, c .1, most-eight (kindAt s at));
+      room = omega (arith, ltb-false (length s) (pastRecord s at) (room .0));
+    }
   where
-    step : (met : Bool) (number place : ℕ) (next : Head) → refuse Refused met number place next ≡ Pins count → (met ≡ false) × (next ≡ Pins count)
-    step met number place next = passed Refused met number place next (Pins count) (λ d. let z : _≡_ {A = ℕ} 0 1 = cc in absurd (omega arith))
+    step : (met : Bool) (number place : ℕ) (next : Head) → refuse Refused met number place next ≡ Pins count word → (met ≡ false) × (next ≡ Pins count word)
+    step met number place next = passed Refused met number place next (Pins count word) (λ d. let z : _≡_ {A = ℕ} 0 1 = cc in absurd (omega arith))
 
 -- what is refused up to the pins is refused; else the pins decide
 byHead : Head → Checked → Checked
-byHead (Pins count) next = next
+byHead (Pins count word) next = next
 byHead (Refused number place) next = netlist.Refused number place
 
 by-refuse : (met : Bool) (number place : ℕ) (head : Head) (next : Checked)
@@ -74,6 +91,6 @@ module _ (s : List ℕ) (signal at : ℕ) (next : Checked) where
   unfolding byHead
   record-refused e = record-head ∙ rw e
 
-  pub record-pins : {count : ℕ} → headAt s at ≡ Pins count → recordAt s signal at next ≡ wordsBelow count s (at + 2) signal 8 next
+  pub record-pins : {count word : ℕ} → headAt s at ≡ Pins count word → recordAt s signal at next ≡ wordsBelow count s (at + 2) signal 8 next
   unfolding byHead
-  record-pins e = record-head ∙ rw (e, head-told s at e .0)
+  record-pins e = record-head ∙ rw (e, head-told s at e .count-is)

@@ -3,6 +3,9 @@ pub mod Meanings
 pub mod Refusals
 pub mod Accepted
 pub mod Heads
-pub mod Leading
+pub mod Passing
+pub mod Keeping
+pub mod Together
 pub mod Reached
 pub mod Proper
+pub mod Decoded

@@ -1,18 +1,22 @@
 -- What a kind byte means, by its ranges, and what the limits tell of it. Assumes nothing.
-use Prim.Native.Nat.{ℕ, zero, suc, _+_, _%_, _≤_, _<_}
+use Prim.Native.Nat.{ℕ, zero, suc, _+_, _*_, _/_, _%_, _≤_, _<_}
 use native.Mathlib.Omega.{arith}
-use mathlib.Core.Path.{_≡_, refl, _∙_}
+use mathlib.Core.Path.{_≡_, refl, _∙_, ap}
 use mathlib.Core.Bool.{Bool, true, false, cond, _||_}
 use mathlib.Core.List.{_∷_}
 use borrow.Author.Tests.{lt-ltb}
 use lib.Dec.{eqb, leb, ltb}
-use lib.ListN.{List·getD-eq-default}
+use lib.ListN.{getD, List·getD-eq-default}
 use Rattle.kung.specs.Rule.{kindOf, kinds, BUFFER}
-use Rattle.kung.specs.Operation.{opOf, inverts, opCode}
+use Rattle.kung.specs.Operation.{Op, and, or, opOf, inverts, opCode}
+use Rattle.kung.specs.Sets.{bit}
+use Rattle.kung.specs.Tables.{tab}
+use Rattle.kung.proofs.Listed.{getD-tab, agree}
 use Rattle.words.specs.Words.{outside}
 use Rattle.words.proofs.Laws.{outside-below, outside-above}
+use Rattle.rows.specs.Rows.{wordFor}
 use Rattle.netlist.specs.Netlist.{noKind, leastPins, mostPins, unfit}
-use Rattle.netlist.specs.Meaning.{meaningOf}
+use Rattle.netlist.specs.Meaning.{meaningOf, meaningWord, meaningTable}
 
 -- the ranges of the code's match
 pub meaning-one : (kind : ℕ) → 1 ≤ kind → kind < 3 → record { least = 1; most = 1; operation = 0; inverts = eqb kind 1 } ≡ meaningOf kind
@@ -46,6 +50,10 @@ pub meaning-above : (kind : ℕ) → 7 ≤ kind → record { least = 1; most = 0
 unfolding noKind kindOf
 meaning-above kind h =
     meaning-none kind (outside-above 1 6 kind (omega arith) ∙ lt-ltb 6 kind (omega arith)) (List·getD-eq-default (BUFFER ∷ kinds) BUFFER {n = kind} (omega arith))
+
+pub no-kind : (kind : ℕ) → 7 < kind → noKind kind ≡ true
+unfolding noKind
+no-kind kind h = outside-above 1 6 kind (omega arith) ∙ lt-ltb 6 kind (omega arith)
 
 -- for every byte, the operation and the inversion of the kind that it is read as
 pub meaning-operation : (kind : ℕ) → meaningOf kind .operation ≡ opCode (opOf (kindOf kind))
@@ -91,3 +99,50 @@ most-some kind = go (noKind kind)
 pub limits-kind : (kind count : ℕ) → noKind kind ≡ false → outside (meaningOf kind .least) (meaningOf kind .most) count ≡ outside (leastPins kind) (mostPins kind) count
 unfolding meaningOf
 limits-kind kind count e = rw e
+
+-- a byte's limits are small
+pub meaning-low : (kind : ℕ) → (meaningOf kind .least ≤ 2) × (meaningOf kind .most ≤ 8) × (meaningOf kind .operation ≤ 1)
+unfolding meaningOf leastPins mostPins
+meaning-low kind = go (noKind kind) (leb kind 2) (opOf (kindOf kind))
+  where
+    go : (b d : Bool) (o : Op) → (cond b 1 (cond d 1 2) ≤ 2) × (cond b 0 (cond d 1 8) ≤ 8) × (opCode o ≤ 1)
+    go true d and = (omega arith, omega arith, omega arith)
+    go true d or = (omega arith, omega arith, omega arith)
+    go false true and = (omega arith, omega arith, omega arith)
+    go false true or = (omega arith, omega arith, omega arith)
+    go false false and = (omega arith, omega arith, omega arith)
+    go false false or = (omega arith, omega arith, omega arith)
+
+-- the words of the bytes 0 to 7, part by part
+word-at : (kind : ℕ) → kind ≤ 7 → getD meaningTable kind 0 ≡ meaningWord (meaningOf kind)
+unfolding meaningTable
+word-at kind h = getD-tab _ 8 kind (omega arith)
+
+module _ (kind : ℕ) (h : kind ≤ 7) where
+  pub word-least : getD meaningTable kind 0 / 16 % 16 ≡ meaningOf kind .least
+  unfolding tab meaningWord meaningOf noKind leastPins mostPins outside kindOf
+  word-least = rw (word-at kind h) (agree (λ k. meaningWord (meaningOf k) / 16 % 16) (λ k. meaningOf k .least) 8 refl kind (omega arith))
+
+  pub word-most : getD meaningTable kind 0 / 256 ≡ meaningOf kind .most
+  unfolding tab meaningWord meaningOf noKind leastPins mostPins outside kindOf
+  word-most = rw (word-at kind h) (agree (λ k. meaningWord (meaningOf k) / 256) (λ k. meaningOf k .most) 8 refl kind (omega arith))
+
+  pub word-gate : (count : ℕ) → getD meaningTable kind 0 % 4 + 4 * count ≡ wordFor (kindOf kind) count
+  unfolding tab meaningWord meaningOf noKind leastPins mostPins outside kindOf wordFor
+  word-gate count =
+      rw (word-at kind h)
+      (ap (λ (n : ℕ). n + 4 * count) (agree (λ k. meaningWord (meaningOf k) % 4) (λ k. opCode (opOf (kindOf k)) + 2 * bit (inverts (kindOf k))) 8 refl kind (omega arith)))
+
+  -- what the word tells of the byte
+  pub word-none : getD meaningTable kind 0 < 256 → noKind kind ≡ true
+  word-none l = most-none kind (omega (arith, word-most))
+
+  pub word-some : 256 ≤ getD meaningTable kind 0 → noKind kind ≡ false
+  word-some l = most-some kind (λ e. omega (arith, word-most))
+
+  pub word-limits : (count : ℕ) → noKind kind ≡ false
+      → outside (getD meaningTable kind 0 / 16 % 16) (getD meaningTable kind 0 / 256) count ≡ outside (leastPins kind) (mostPins kind) count
+  word-limits count e = rw (word-least, word-most) (limits-kind kind count e)
+
+  pub word-low : getD meaningTable kind 0 / 256 ≤ 8
+  word-low = rw word-most (meaning-low kind .1)

@@ -12,11 +12,12 @@ use Rattle.words.specs.Words.{wordAt, outside}
 use Rattle.words.specs.Refusal.{refuse}
 use Rattle.words.proofs.Laws.{inside}
 use Rattle.words.proofs.Refusal.{pass}
+use Rattle.netlist.specs.declared.Shape.{Shape}
 use Rattle.netlist.specs.declared.Checked.{Checked}
 use Rattle.netlist.specs.declared.Checked.the-variants.{Accepted, Refused}
 use Rattle.netlist.specs.Netlist.{inputsOf, gatesOf, outputsOf, kindAt, countAt, placeOf, entriesAt, outputsEnd}
 use Rattle.netlist.specs.Netlist.{wordsBelow, noKind, leastPins, mostPins, recordAt, recordsFrom}
-use Rattle.netlist.specs.Netlist.{opening, counts, outputs, accepted, body, bodyWithin, checkedWithin, checked}
+use Rattle.netlist.specs.Netlist.{opening, counts, outputs, accepted, shapeOf, body, bodyWithin, checkedWithin, checked}
 use Rattle.netlist.specs.Proper.{ProperRecord, Proper, Condition, when, firstMet}
 use Rattle.netlist.specs.Proper.{wordConditions, headConditions, recordConditions, recordsConditions, outputConditions, conditions}
 use Rattle.netlist.proofs.Refusals.{opening-pass, counts-inputs, counts-gates, counts-pass, body-within}
@@ -129,10 +130,10 @@ first-refusal s =
       first-append Refused (headConditions s) _ _,
     )
 
-pub accepted→proper : {i g o p e : ℕ} (s : List ℕ) → checked s ≡ Accepted i g o p e → Proper s
-unfolding conditions headConditions accepted Unmet
-accepted→proper {i} {g} {o} {p} {e} s h =
-    let passed = none-met Refused (conditions s) (accepted s) (Accepted i g o p e) other (sym (first-refusal s) ∙ h) in
+pub accepted→proper : {shape : Shape} (s : List ℕ) → checked s ≡ Accepted shape → Proper s
+unfolding conditions headConditions accepted shapeOf Unmet
+accepted→proper {shape} s h =
+    let passed = none-met Refused (conditions s) (accepted s) (Accepted shape) other (sym (first-refusal s) ∙ h) in
     let f = formed s (h ∙ sym (passed .1)) in
     record {
       long = ltb-false _ _ (passed .0 .0);
@@ -155,5 +156,5 @@ accepted→proper {i} {g} {o} {p} {e} s h =
       whole = f .whole;
     }
   where
-    other : (number place : ℕ) → Refused number place ≡ Accepted i g o p e → ⊥
+    other : (number place : ℕ) → Refused number place ≡ Accepted shape → ⊥
     other number place d = let z : _≡_ {A = ℕ} 0 1 = cc in absurd (omega arith)

@@ -15,7 +15,7 @@ use Rattle.words.proofs.Refusal.{stop, pass}
 use Rattle.netlist.specs.declared.Checked.{Checked}
 use Rattle.netlist.specs.declared.Checked.the-variants.{Accepted, Refused}
 use Rattle.netlist.specs.Netlist.{inputsOf, gatesOf, outputsOf, pinTotal, entriesAt, outputsEnd}
-use Rattle.netlist.specs.Netlist.{wordsBelow, opening, counts, outputs, accepted, body, bodyWithin}
+use Rattle.netlist.specs.Netlist.{wordsBelow, opening, counts, outputs, shapeOf, accepted, body, bodyWithin}
 
 module _ (n : ℕ) (s : List ℕ) (at bound number : ℕ) (next : Checked) (k : ℕ) where
   -- the first k of n words are below the bound: what is left
@@ -54,8 +54,8 @@ module _ (s : List ℕ) (next : Checked) (count at : ℕ) (o : count ≡ outputs
 
 -- the counts that the code has read and counted
 pub accepted-read : (s : List ℕ) {i g o p e : ℕ} → i ≡ inputsOf s → g ≡ gatesOf s → o ≡ outputsOf s → p ≡ pinTotal s → e ≡ entriesAt s
-    → Accepted i g o p e ≡ accepted s
-unfolding accepted
+    → Accepted (record { inputs = i; gates = g; outputs = o; pins = p; entries = e }) ≡ accepted s
+unfolding accepted shapeOf
 accepted-read s i g o p e = rw (i, g, o, p, e)
 
 -- the first bytes

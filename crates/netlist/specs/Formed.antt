@@ -4,6 +4,7 @@ use mathlib.Core.Path.{_≡_}
 use mathlib.Core.List.{List}
 use lib.ListN.{length}
 use Rattle.circuit.specs.Circuit.{WellFormed}
+use Rattle.netlist.specs.declared.Shape.{Shape}
 use Rattle.netlist.specs.Netlist.{inputsOf, gatesOf, outputsOf, kindAt, countAt, pinAt, pastRecord, placeOf, pinTotal, entriesAt, outputAt, cardOf}
 use Rattle.netlist.specs.Netlist.{leastPins, mostPins}
 
@@ -17,21 +18,21 @@ pub record RecordFormed (s : List ℕ) (at : ℕ) : Type 0 where
   pub count-eight : countAt s at ≤ 8
   pub room : pastRecord s at ≤ length s
 
-pub record Formed (s : List ℕ) (inputs gates outputs pins entries : ℕ) : Type 0 where
-  pub inputs-are : inputs ≡ inputsOf s
-  pub gates-are : gates ≡ gatesOf s
-  pub outputs-are : outputs ≡ outputsOf s
-  pub pins-are : pins ≡ pinTotal s
-  pub entries-are : entries ≡ entriesAt s
-  pub inputs-low : 1 ≤ inputs
-  pub inputs-high : inputs ≤ 256
-  pub gates-high : gates ≤ 2048
-  pub outputs-low : 1 ≤ outputs
-  pub outputs-high : outputs ≤ 64
-  pub records : (g : ℕ) → g < gates → RecordFormed s (placeOf s g)
-  pub pin-below : (g k : ℕ) → g < gates → k < countAt s (placeOf s g) → pinAt s (placeOf s g) k < inputs + g
+pub record Formed (s : List ℕ) (shape : Shape) : Type 0 where
+  pub inputs-are : shape .inputs ≡ inputsOf s
+  pub gates-are : shape .gates ≡ gatesOf s
+  pub outputs-are : shape .outputs ≡ outputsOf s
+  pub pins-are : shape .pins ≡ pinTotal s
+  pub entries-are : shape .entries ≡ entriesAt s
+  pub inputs-low : 1 ≤ shape .inputs
+  pub inputs-high : shape .inputs ≤ 256
+  pub gates-high : shape .gates ≤ 2048
+  pub outputs-low : 1 ≤ shape .outputs
+  pub outputs-high : shape .outputs ≤ 64
+  pub records : (g : ℕ) → g < shape .gates → RecordFormed s (placeOf s g)
+  pub pin-below : (g k : ℕ) → g < shape .gates → k < countAt s (placeOf s g) → pinAt s (placeOf s g) k < shape .inputs + g
   pub well-formed : WellFormed (cardOf s)
-  pub output-below : (o : ℕ) → o < outputs → outputAt s o < inputs + gates
-  pub pins-high : pins ≤ 8 * gates
-  pub place-high : (g : ℕ) → g ≤ gates → placeOf s g ≤ 11 + 18 * g
-  pub whole : length s ≡ entries + 2 * outputs
+  pub output-below : (o : ℕ) → o < shape .outputs → outputAt s o < shape .inputs + shape .gates
+  pub pins-high : shape .pins ≤ 8 * shape .gates
+  pub place-high : (g : ℕ) → g ≤ shape .gates → placeOf s g ≤ 11 + 18 * g
+  pub whole : length s ≡ shape .entries + 2 * shape .outputs

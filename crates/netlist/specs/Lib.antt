@@ -1,6 +1,6 @@
 pub mod Netlist
 pub mod Meaning
 pub mod Reading
-pub mod Index
+pub mod Decoded
 pub mod Formed
 pub mod Proper

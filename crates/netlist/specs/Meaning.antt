@@ -1,8 +1,11 @@
--- What the code reads off a kind byte, once for the check, the walk and the search.
-use Prim.Native.Nat.{ℕ}
+-- What the code reads off a kind byte, once for the check and the walk.
+use Prim.Native.Nat.{ℕ, _+_, _*_}
 use mathlib.Core.Bool.{cond}
+use mathlib.Core.List.{List}
 use Rattle.kung.specs.Rule.{kindOf}
 use Rattle.kung.specs.Operation.{opOf, inverts, opCode}
+use Rattle.kung.specs.Sets.{bit}
+use Rattle.kung.specs.Tables.{tab}
 use Rattle.netlist.specs.Netlist.{noKind, leastPins, mostPins}
 use Rattle.netlist.specs.declared.Meaning.{Meaning}
 
@@ -15,3 +18,11 @@ meaningOf kind = record {
   operation = opCode (opOf (kindOf kind));
   inverts = inverts (kindOf kind);
 }
+
+-- a meaning in one word: the operation, 2 more where it inverts, 16 times the least and 256 times the most pins
+unfoldable pub meaningWord : Meaning → ℕ
+meaningWord m = m .operation + 2 * bit (m .inverts) + 16 * m .least + 256 * m .most
+
+-- the words of the bytes 0 to 7
+unfoldable pub meaningTable : List ℕ
+meaningTable = tab (λ kind. meaningWord (meaningOf kind)) 0 8

@@ -8,6 +8,7 @@ use Rattle.kung.specs.Rule.{Kind, kindOf}
 use Rattle.circuit.specs.Circuit.{Card}
 use Rattle.words.specs.Words.{byteAt, wordAt, wordsAt, marked, outside}
 use Rattle.words.specs.Refusal.{refuse}
+use Rattle.netlist.specs.declared.Shape.{Shape}
 use Rattle.netlist.specs.declared.Checked.{Checked}
 use Rattle.netlist.specs.declared.Checked.the-variants.{Accepted, Refused}
 
@@ -130,8 +131,12 @@ outputs s next =
     (refuse Refused (ltb (outputsEnd s) (length s)) 10 (outputsEnd s)
     next))
 
+-- what an accepted netlist gives
+unfoldable pub shapeOf : List ℕ → Shape
+shapeOf s = record { inputs = inputsOf s; gates = gatesOf s; outputs = outputsOf s; pins = pinTotal s; entries = entriesAt s }
+
 unfoldable pub accepted : List ℕ → Checked
-accepted s = Accepted (inputsOf s) (gatesOf s) (outputsOf s) (pinTotal s) (entriesAt s)
+accepted s = Accepted (shapeOf s)
 
 -- what follows the counts
 unfoldable pub body : List ℕ → Checked

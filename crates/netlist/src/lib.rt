@@ -1,28 +1,33 @@
-// Card netlists: the check with its refusals, the index of the records' places, and readers.
+// Card netlists: the check with its refusals, which decodes the card into rows on the way.
 ghost use mathlib.Core.Path.{_≡_};
-ghost use mathlib.Core.List.{_++_};
+ghost use mathlib.Core.Bool.{cond};
 ghost use Prim.Native.Nat.{_+_, _*_, _≤_};
-ghost use lib.ListN.{length, drop};
-ghost use Rattle.words.specs.Words.{wordAt};
-ghost use Rattle.netlist.specs.Netlist.{inputsOf, gatesOf, kindAt, countAt, placeOf, pinTotal, entriesAt, unfit};
+ghost use lib.Dec.{ltb};
+ghost use lib.ListN.{length};
+ghost use Rattle.kung.specs.Rule.{each};
+ghost use Rattle.words.specs.Words.{wordsAt};
+ghost use Rattle.rows.specs.Making.{putAt};
+ghost use Rattle.netlist.specs.Netlist.{inputsOf, gatesOf, pinTotal, entriesAt, unfit};
 ghost use Rattle.netlist.specs.Netlist.{counts, outputs, accepted, body, bodyWithin, checked};
-ghost use Rattle.netlist.specs.Meaning.{meaningOf};
-ghost use Rattle.netlist.specs.Reading.{leading, belowAtOnce, headAt};
-ghost use Rattle.netlist.specs.Index.{placesOf};
-use words::byte_at;
+ghost use Rattle.netlist.specs.Meaning.{meaningOf, meaningWord, meaningTable};
+ghost use Rattle.netlist.specs.Reading.{headAt};
+ghost use Rattle.netlist.specs.Decoded.{rowsFrom, withOutputs, decodedBy, decoded};
 use words::is_outside;
 use words::word_at;
 use words::word_in;
 
-// The answer of a check: the counts, the pins together and the place of the output entries, or the number and place of a refusal.
+// What an accepted netlist gives: the counts, the pins together and the place of the output entries.
+pub struct Shape {
+    pub inputs: usize,
+    pub gates: usize,
+    pub outputs: usize,
+    pub pins: usize,
+    pub entries: usize,
+}
+
+// The answer of a check: the shape, or the number and place of a refusal.
 pub enum Checked {
-    Accepted {
-        inputs: usize,
-        gates: usize,
-        outputs: usize,
-        pins: usize,
-        entries: usize,
-    },
+    Accepted(Shape),
     Refused(u8, usize),
 }
 
@@ -71,10 +76,46 @@ pub fn is_unfit(kind: u8, count: usize) -> bool
     is_outside(meaning.least, meaning.most, count)
 }
 
-// The check from the output entries on, with what was counted on the way.
-fn check_outputs(s: &[u8], pins: usize, at: usize) -> Checked
+// A meaning in one word.
+fn meaning_word(meaning: Meaning) -> u16
+    requires { ⌜ (meaning .least ≤ 2) × (meaning .most ≤ 8) × (meaning .operation ≤ 1) ⌝ }
+    ensures { λ r. ⌜ r ≡ meaningWord meaning ⌝ }
+{
+    meaning.operation as u16
+        + 2 * (meaning.inverts as u16)
+        + 16 * (meaning.least as u16)
+        + 256 * (meaning.most as u16)
+}
+
+// The words of the bytes 0 to 7, made once for a check: in its loop no jump depends on a kind.
+fn meaning_table() -> [u16; 8]
+    ensures { λ r. ⌜ r ≡ meaningTable ⌝ }
+{
+    let mut table = [0u16; 8];
+    for kind in 0..8 {
+        table[kind] = meaning_word(meaning_of(kind as u8));
+    }
+    table
+}
+
+// Writes the words from a place of the bytes on, where they have room.
+fn keep_words(s: &[u8], rows: &mut [u16], at: usize, count: usize, base: usize)
+    requires { ⌜ (at + 2 * count ≤ length (now s)) × (count ≤ 65535) × (base ≤ 1179630) ⌝ }
+    ensures { λ r. ⌜ now (rows .exit) ≡ putAt (now (rows .entry)) base (wordsAt count (now (s .entry)) at) ⌝ }
+{
+    if rows.len() < base + count {
+        return;
+    }
+    for k in 0..count {
+        rows[base + k] = word_in(s, at + 2 * k);
+    }
+}
+
+// The check from the output entries on, with what was counted on the way. The outputs are kept where nothing is refused.
+fn check_outputs(s: &[u8], rows: &mut [u16], pins: usize, at: usize) -> Checked
     requires { ⌜ (pins ≡ pinTotal (now s)) × (at ≡ entriesAt (now s)) × (at ≤ length (now s) + 11) ⌝ }
     ensures { λ r. ⌜ r ≡ outputs (now (s .entry)) (accepted (now (s .entry))) ⌝ }
+    ensures { λ r. ⌜ now (rows .exit) ≡ withOutputs (outputs (now (s .entry)) (accepted (now (s .entry)))) (now (s .entry)) (now (rows .entry)) ⌝ }
 {
     let inputs = word_at(s, 5) as usize;
     let gates = word_at(s, 7) as usize;
@@ -92,52 +133,25 @@ fn check_outputs(s: &[u8], pins: usize, at: usize) -> Checked
     if end < s.len() {
         Checked::Refused(10, end)
     } else {
-        Checked::Accepted {
+        keep_words(s, rows, at, outputs, 9 * (inputs + gates));
+        Checked::Accepted(Shape {
             inputs,
             gates,
             outputs,
             pins,
             entries: at,
-        }
+        })
     }
 }
 
-// How many of the eight words from a place on stand before the first that is not below the bound. It goes from the last to the first, so
-// that no jump depends on a word.
-fn leading_below(s: &[u8], at: usize, bound: u16) -> usize
-    requires { ⌜ at + 16 ≤ length (now s) ⌝ }
-    ensures { λ r. ⌜ r ≡ leading 8 (now (s .entry)) at bound ⌝ }
-{
-    let mut first: usize = 8;
-    let mut k: usize = 8;
-    while 0 < k {
-        k -= 1;
-        if bound <= word_in(s, at + 2 * k) {
-            first = k;
-        }
-    }
-    first
-}
-
-// How many words from a place on are seen together to be below the bound: 0 where eight have no room.
-fn below_at_once(s: &[u8], at: usize, bound: u16) -> usize
-    requires { ⌜ at ≤ length (now s) ⌝ }
-    ensures { λ r. ⌜ r ≡ belowAtOnce (now (s .entry)) at bound ⌝ }
-{
-    if s.len() < at + 16 {
-        return 0;
-    }
-    leading_below(s, at, bound)
-}
-
-// A record up to its pins: how many there are, or the number and place of a refusal.
+// A record up to its pins: how many there are and its gate's word, or the number and place of a refusal.
 enum Head {
-    Pins(usize),
+    Pins(usize, u16),
     Refused(u8, usize),
 }
 
-fn head_at(s: &[u8], at: usize) -> Head
-    requires { ⌜ at ≤ length (now s) + 11 ⌝ }
+fn head_at(s: &[u8], meanings: &[u16; 8], at: usize) -> Head
+    requires { ⌜ (now meanings ≡ meaningTable) × (at ≤ length (now s) + 11) ⌝ }
     ensures { λ r. ⌜ r ≡ headAt (now (s .entry)) at ⌝ }
 {
     if s.len() < at + 2 {
@@ -145,48 +159,72 @@ fn head_at(s: &[u8], at: usize) -> Head
     }
     let second = at + 1;
     let count = s[second] as usize;
-    let meaning = meaning_of(s[at]);
-    if meaning.most == 0 {
+    let kind = s[at] as usize;
+    if 7 < kind {
         return Head::Refused(6, at);
     }
-    if is_outside(meaning.least, meaning.most, count) {
+    let meaning = meanings[kind];
+    if meaning < 256 {
+        return Head::Refused(6, at);
+    }
+    if is_outside(
+        (meaning / 16 % 16) as usize,
+        (meaning / 256) as usize,
+        count,
+    ) {
         return Head::Refused(7, second);
     }
     if s.len() < at + 2 + 2 * count {
         return Head::Refused(5, at);
     }
-    Head::Pins(count)
+    Head::Pins(count, meaning % 4 + 4 * (count as u16))
 }
 
-// The check from the records on. A record's pins are looked at together first, and from where that ends one after the other.
-fn check_records(s: &[u8]) -> Checked
+// How many of a row's pins are seen together to be below the bound: all or none.
+fn passed(row: [u16; 8], bound: u16, count: usize) -> usize
+    ensures { λ r. ⌜ r ≡ cond (each (λ x. ltb x bound) row) count 0 ⌝ }
+{
+    if rows::are_below(row, bound) {
+        count
+    } else {
+        0
+    }
+}
+
+// The check from the records on. A record's pins are looked at together first, and one after the other only where one is refused.
+fn check_records(s: &[u8], rows: &mut [u16]) -> Checked
     requires { ⌜ (inputsOf (now s) ≤ 256) × (gatesOf (now s) ≤ 2048) ⌝ }
     ensures { λ r. ⌜ r ≡ body (now (s .entry)) ⌝ }
+    ensures { λ r. ⌜ now (rows .exit) ≡ withOutputs (body (now (s .entry))) (now (s .entry)) (rowsFrom (gatesOf (now (s .entry))) 0 (now (s .entry)) (now (rows .entry))) ⌝ }
 {
     let inputs = word_at(s, 5) as usize;
     let gates = word_at(s, 7) as usize;
+    let window = rows::WINDOW;
+    let meanings = meaning_table();
     let mut gate: usize = 0;
     let mut at: usize = 11;
     let mut pins: usize = 0;
     'records: loop {
         if gate == gates {
-            break 'records check_outputs(s, pins, at);
+            break 'records check_outputs(s, rows, pins, at);
         }
-        match head_at(s, at) {
+        match head_at(s, &meanings, at) {
             Head::Refused(number, place) => break 'records Checked::Refused(number, place),
-            Head::Pins(count) => {
-                let signal = (inputs + gate) as u16;
-                let mut k = below_at_once(s, at + 2, signal);
+            Head::Pins(count, word) => {
+                let signal = inputs + gate;
+                let row = rows::row_at(s, &window, at + 2, count);
+                let mut k = passed(row, signal as u16, count);
                 'pins: loop {
                     if count <= k {
                         break 'pins;
                     }
                     let place = at + 2 + 2 * k;
-                    if signal <= word_in(s, place) {
+                    if signal as u16 <= word_in(s, place) {
                         break 'records Checked::Refused(8, place);
                     }
                     k += 1;
                 }
+                rows::keep_row(rows, signal, row, word);
                 pins += count;
                 at = at + 2 + 2 * count;
                 gate += 1;
@@ -196,8 +234,9 @@ fn check_records(s: &[u8]) -> Checked
 }
 
 // The check from the counts on.
-fn check_counts(s: &[u8]) -> Checked
+fn check_counts(s: &[u8], rows: &mut [u16]) -> Checked
     ensures { λ r. ⌜ r ≡ counts (now (s .entry)) (bodyWithin 2304 (now (s .entry))) ⌝ }
+    ensures { λ r. ⌜ now (rows .exit) ≡ decodedBy (counts (now (s .entry)) (bodyWithin 2304 (now (s .entry)))) (now (s .entry)) (now (rows .entry)) ⌝ }
 {
     if is_outside(1, 256, word_at(s, 5) as usize) {
         return Checked::Refused(4, 5);
@@ -208,12 +247,13 @@ fn check_counts(s: &[u8]) -> Checked
     if is_outside(1, 64, word_at(s, 9) as usize) {
         return Checked::Refused(4, 9);
     }
-    check_records(s)
+    check_records(s, rows)
 }
 
-// The check of a netlist.
-pub fn check(s: &[u8]) -> Checked
+// The check of a netlist, whose rows are kept as far as it goes and they have room.
+pub fn decode(s: &[u8], rows: &mut [u16]) -> Checked
     ensures { λ r. ⌜ r ≡ checked (now (s .entry)) ⌝ }
+    ensures { λ r. ⌜ now (rows .exit) ≡ decoded (now (s .entry)) (now (rows .entry)) ⌝ }
 {
     if s.len() < 11 {
         return Checked::Refused(1, s.len());
@@ -224,45 +264,20 @@ pub fn check(s: &[u8]) -> Checked
     if word_at(s, 3) != 1 {
         return Checked::Refused(3, 3);
     }
-    check_counts(s)
+    check_counts(s, rows)
 }
 
-// Writes the places of the records of gates 0 to `gates` - 1.
-pub fn fill_places(s: &[u8], places: &mut [u16], gates: usize)
-    requires { ⌜ (gates ≤ length (now places)) × (placeOf (now s) gates ≤ 65535) ⌝ }
-    ensures { λ r. ⌜ now (places .exit) ≡ placesOf (now (s .entry)) gates ++ drop gates (now (places .entry)) ⌝ }
+// The check alone.
+pub fn check(s: &[u8]) -> Checked
+    ensures { λ r. ⌜ r ≡ checked (now (s .entry)) ⌝ }
 {
-    let mut at: usize = 11;
-    let mut gate: usize = 0;
-    while gate < gates {
-        places[gate] = at as u16;
-        at = at + 2 + 2 * count_at(s, at as u16) as usize;
-        gate += 1;
-    }
+    let mut none = [0u16; 0];
+    decode(s, &mut none)
 }
 
-// Of the record at a place: the kind byte and the pin count.
-pub fn kind_at(s: &[u8], place: u16) -> u8
-    ensures { λ r. ⌜ r ≡ kindAt (now (s .entry)) place ⌝ }
+// How many signals a netlist says that it has, whatever the bytes are.
+pub fn signals_in(s: &[u8]) -> usize
+    ensures { λ r. ⌜ r ≡ inputsOf (now (s .entry)) + gatesOf (now (s .entry)) ⌝ }
 {
-    byte_at(s, place as usize)
-}
-
-pub fn count_at(s: &[u8], place: u16) -> u8
-    ensures { λ r. ⌜ r ≡ countAt (now (s .entry)) place ⌝ }
-{
-    byte_at(s, place as usize + 1)
-}
-
-// The output entry `output` places after the entries' start; 0 past the end.
-pub fn entry_at(s: &[u8], entries: usize, output: usize) -> u16
-    ensures { λ r. ⌜ r ≡ wordAt (now (s .entry)) (entries + 2 * output) ⌝ }
-{
-    if s.len() <= entries {
-        return 0;
-    }
-    if s.len() - entries <= output {
-        return 0;
-    }
-    word_at(s, entries + 2 * output)
+    word_at(s, 5) as usize + word_at(s, 7) as usize
 }

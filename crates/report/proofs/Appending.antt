@@ -55,3 +55,31 @@ pub line-length : (word : List ℕ) (rest : List (List ℕ)) → length (line wo
 unfolding line
 line-length word [] = refl
 line-length word (next ∷ rest) = simp length-append (omega (arith, line-length next rest))
+
+-- what is left of a line fits
+pub record Fits (a : List ℕ) (at : ℕ) (word : List ℕ) (rest : List (List ℕ)) : Type 0 where
+  pub room : at + total word rest ≤ length a
+
+-- its next word, and what is left after it
+pub fits-word : {a word next : List ℕ} {rest : List (List ℕ)} {at : ℕ} → Fits a at word (next ∷ rest) → at + length (word ++ (32 ∷ [])) ≤ length a
+fits-word f = omega (arith, f .room)
+
+infixl 20 _past_
+pub _past_ : {a b word next : List ℕ} {rest : List (List ℕ)} {at r : ℕ} → Fits a at word (next ∷ rest) → Appended a b at r (word ++ (32 ∷ [])) → Fits b r next rest
+_past_ f p = record { room = omega (arith, f .room, p .after, kept p) }
+
+pub fits-last : {a word : List ℕ} {at : ℕ} → Fits a at word [] → at + length (word ++ (10 ∷ [])) ≤ length a
+fits-last f = f .room
+
+-- its next two words, and what is left after them
+pub fits-two : {a first second next : List ℕ} {rest : List (List ℕ)} {at : ℕ} → Fits a at first (second ∷ next ∷ rest)
+    → at + length (first ++ (32 ∷ [])) + length (second ++ (32 ∷ [])) ≤ length a
+fits-two f = omega (arith, f .room)
+
+infixl 20 _past-two_
+pub _past-two_ : {a b first second next : List ℕ} {rest : List (List ℕ)} {at r : ℕ} → Fits a at first (second ∷ next ∷ rest)
+    → Appended a b at r ((first ++ (32 ∷ [])) ++ (second ++ (32 ∷ []))) → Fits b r next rest
+_past-two_ {first = first} {second = second} f p = record { room = omega (arith, f .room, p .after, kept p, length-append (first ++ (32 ∷ [])) (second ++ (32 ∷ []))) }
+
+pub fits-last-two : {a first second : List ℕ} {at : ℕ} → Fits a at first (second ∷ []) → at + length (first ++ (32 ∷ [])) + length (second ++ (10 ∷ [])) ≤ length a
+fits-last-two f = omega (arith, f .room)

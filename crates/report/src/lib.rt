@@ -4,7 +4,8 @@ ghost use mathlib.Core.List.{[], _∷_, _++_};
 ghost use Prim.Native.Nat.{_+_, _%_, _≤_, _<_};
 ghost use lib.ListN.{length};
 ghost use Rattle.kung.specs.Class.{ofCode, nameOf};
-ghost use Rattle.report.specs.Text.{decimal, countsLine, verdictWord, verdictLine, refusalLine};
+ghost use Rattle.report.specs.Text.{decimal, countsLine, verdictWord, refusalLine};
+ghost use Rattle.report.specs.Lines.{textOf};
 ghost use Rattle.report.specs.Appended.{Appended};
 
 // The classes' names by their codes, two bytes each; the first four have one letter.
@@ -107,25 +108,26 @@ pub fn put_counts(
     put_count(buffer, at, changes, b"changes", b'\n')
 }
 
-pub fn put_verdict(
-    buffer: &mut [u8],
-    at: usize,
-    change: usize,
-    output: usize,
-    class: u8,
-    clean: bool,
-    gates: usize,
-    pins: usize,
-) -> usize
-    requires { ⌜ at + length (verdictLine change output (ofCode class) clean gates pins) ≤ length (now buffer) ⌝ }
-    ensures { λ r. ⌜ Appended (now (buffer .entry)) (now (buffer .exit)) at r (verdictLine change output (ofCode class) clean gates pins) ⌝ }
+// What a line says of an output in a change.
+pub struct Line {
+    pub change: usize,
+    pub output: usize,
+    pub class: u8,
+    pub clean: bool,
+    pub gates: usize,
+    pub pins: usize,
+}
+
+pub fn put_verdict(buffer: &mut [u8], at: usize, line: Line) -> usize
+    requires { ⌜ at + length (textOf line) ≤ length (now buffer) ⌝ }
+    ensures { λ r. ⌜ Appended (now (buffer .entry)) (now (buffer .exit)) at r (textOf line) ⌝ }
 {
-    let at = put_number(buffer, at, change, b' ');
-    let at = put_number(buffer, at, output, b' ');
-    let at = put_class(buffer, at, class);
-    let at = put_judgement(buffer, at, clean);
-    let at = put_number(buffer, at, gates, b' ');
-    put_number(buffer, at, pins, b'\n')
+    let at = put_number(buffer, at, line.change, b' ');
+    let at = put_number(buffer, at, line.output, b' ');
+    let at = put_class(buffer, at, line.class);
+    let at = put_judgement(buffer, at, line.clean);
+    let at = put_number(buffer, at, line.gates, b' ');
+    put_number(buffer, at, line.pins, b'\n')
 }
 
 pub fn put_refusal(buffer: &mut [u8], at: usize, number: u8, place: usize) -> usize

@@ -76,18 +76,18 @@ module _ (src : ℕ → Source Class) (c : ℕ → Bool) (closed : Closed src c)
           (rw many (rw rest at (sum-more (pinsAt src c) (suc s) (n - suc s))))
 
 -- one cell written: the totals before and after
-total-set : (f : ℕ → ℕ) (cells : List ℕ) (s b : ℕ) → s < length cells → total f (set cells s b) + f (getD cells s 0) ≡ total f cells + f b
+pub total-set : (f : ℕ → ℕ) (cells : List ℕ) (s b : ℕ) → s < length cells → total f (set cells s b) + f (getD cells s 0) ≡ total f cells + f b
 unfolding total
 total-set f [] s b h = absurd (omega arith)
 total-set f (x ∷ cells) zero b h = omega arith
 total-set f (x ∷ cells) (suc s) b h = omega (arith, total-set f cells s b (omega arith))
 
-total-put : (f : ℕ → ℕ) (cells : List ℕ) (s : ℕ) (c : Cell) → s < length cells
+pub total-put : (f : ℕ → ℕ) (cells : List ℕ) (s : ℕ) (c : Cell) → s < length cells
     → total f (put cells s c) + f (getD cells s 0) ≡ total f cells + f (byteOf c)
 unfolding put
 total-put f cells s c = total-set f cells s (byteOf c)
 
-visited-kept : (p : Class) (next : ℕ) → visitedOf (byteOf (kept p next)) ≡ 1
+pub visited-kept : (p : Class) (next : ℕ) → visitedOf (byteOf (kept p next)) ≡ 1
 visited-kept p next = rw (le-ltb (byteOf (kept p next)) 128 (omega arith))
 
 -- Gates visited are at most the pins taken and one: each but the first is visited after a pin was taken.

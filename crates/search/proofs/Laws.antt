@@ -27,7 +27,7 @@ code-below k = ltb→lt (code k) 8 (class-at (λ k. ltb (code k) 8) tt k)
 pub nextOf-byteOf : (p : Class) (i : ℕ) → nextOf (byteOf (kept p i)) ≡ i
 nextOf-byteOf p i = omega (arith, code-below p)
 
-ofCode-byteOf : (p : Class) (i : ℕ) → ofCode (byteOf (kept p i)) ≡ p
+pub ofCode-byteOf : (p : Class) (i : ℕ) → ofCode (byteOf (kept p i)) ≡ p
 unfolding ofCode
 ofCode-byteOf p i =
     let e : (128 + 8 * i + code p) % 8 ≡ code p % 8 = omega (arith, code-below p) in

@@ -45,6 +45,7 @@ mux-tie : tieOf muxNetlist ≡ 8205
 unfolding tieOf tieFrom
 mux-tie = refl
 
-mux-accepted : list.listChecked muxNetlist muxList ≡ Accepted 3 4 1 7 33 1 1
-unfolding list.listChecked list.against list.afterNetlist list.sparesFrom list.spareAt list.spareBits netlist.checked netlist.checkedWithin netlist.bodyWithin netlist.body netlist.accepted netlist.outputs netlist.counts netlist.opening netlist.recordsFrom netlist.recordAt netlist.mostPins netlist.leastPins netlist.noKind netlist.wordsBelow refuse netlist.pinsBelow netlist.placeOf wordAt longAt marked outside tieOf tieFrom
+mux-accepted : list.listChecked muxNetlist muxList
+    ≡ Accepted (record { shape = record { inputs = 3; gates = 4; outputs = 1; pins = 7; entries = 33 }; changes = 1; width = 1 })
+unfolding list.listChecked list.against list.afterNetlist list.sparesFrom list.spareAt list.spareBits netlist.checked netlist.checkedWithin netlist.bodyWithin netlist.body netlist.accepted netlist.shapeOf netlist.outputs netlist.counts netlist.opening netlist.recordsFrom netlist.recordAt netlist.mostPins netlist.leastPins netlist.noKind netlist.wordsBelow refuse netlist.pinsBelow netlist.placeOf wordAt longAt marked outside tieOf tieFrom
 mux-accepted = refl

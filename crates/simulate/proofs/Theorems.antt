@@ -12,6 +12,7 @@ use Rattle.circuit.proofs.Laws.{values-length, values-at}
 use Rattle.circuit.proofs.Ends.{class-gate, start-is, end-is}
 use Rattle.netlist.specs.Netlist.{inputsOf, gatesOf, gateKind, gatePins, cardOf}
 use Rattle.netlist.specs.Formed.{Formed}
+use Rattle.netlist.specs.declared.Shape.{Shape}
 use Rattle.changes.specs.Changes.{widthOf, first, second, bitOf, inputClassAt, sourcesOf}
 use Rattle.simulate.specs.Full.{classIn, codes}
 
@@ -34,9 +35,9 @@ codes-at n l t s h =
     List·getD-map code (values gateClass c0 (sourcesOf n l t) (inputsOf n + gatesOf n)) s c0
     ∙ ap code (values-at gateClass c0 (sourcesOf n l t) (inputsOf n + gatesOf n) s h ∙ sym (class-value n l t s))
 
-module _ {i g o p e : ℕ} (n l : List ℕ) (t : ℕ) (formed : Formed n i g o p e) where
+module _ {shape : Shape} (n l : List ℕ) (t : ℕ) (formed : Formed n shape) where
   -- each gate's class is the rule over its pins' classes
-  pub class-law : (h : ℕ) → h < g → classIn n l t (i + h) ≡ gateClass (gateKind n h) (map (classIn n l t) (gatePins n h))
+  pub class-law : (h : ℕ) → h < shape .gates → classIn n l t (shape .inputs + h) ≡ gateClass (gateKind n h) (map (classIn n l t) (gatePins n h))
   unfolding classIn cardOf
   class-law h below =
       ap (λ x. classOf (cardOf n) (bitOf l (widthOf (inputsOf n)) t first) (bitOf l (widthOf (inputsOf n)) t second) (x + h)) (formed .inputs-are)

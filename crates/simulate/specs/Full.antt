@@ -27,9 +27,9 @@ codes n l t = map code (values gateClass c0 (sourcesOf n l t) (inputsOf n + gate
 -- "Full: the list's, then change not below T 18; buffer under I + G 20."; "Places from 18 up are 0 unless given otherwise."
 unfoldable pub fullFrom : Listed → (change room : ℕ) → Simulated
 fullFrom (list.Refused number place) change room = Refused number place
-fullFrom (list.Accepted inputs gates outputs pins entries changes width) change room =
-    refuse Refused (leb changes change) 18 0
-    (refuse Refused (ltb room (inputs + gates)) 20 0
+fullFrom (list.Accepted task) change room =
+    refuse Refused (leb (task .changes) change) 18 0
+    (refuse Refused (ltb room (task .shape .inputs + task .shape .gates)) 20 0
     Done)
 
 unfoldable pub fullAnswer : (netlist list : List ℕ) → (change : ℕ) → (buffer : List ℕ) → Simulated

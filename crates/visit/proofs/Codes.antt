@@ -1,5 +1,5 @@
 -- The code's numbers for kinds, classes, sets and waiting gates. Assumes nothing.
-use Prim.Native.Nat.{ℕ, zero, suc, _+_, _-_, _*_, _/_, _%_, _^_, _<_}
+use Prim.Native.Nat.{ℕ, zero, suc, _+_, _-_, _*_, _/_, _%_, _^_, _≤_, _<_}
 use native.Mathlib.Omega.{arith}
 use mathlib.Core.Path.{_≡_, refl, sym, _∙_, ap}
 use mathlib.Core.Bool.{Bool, true, false, cond, not, _&&_}
@@ -8,22 +8,15 @@ use lib.Dec.{eqb}
 use lib.ListN.{getD}
 use borrow.Author.Tests.{lt-ltb}
 use Rattle.kung.specs.Class.{Class, c0, code, classes, ofCode}
-use Rattle.kung.specs.Rule.{kindOf, some as someOf}
-use Rattle.kung.specs.Operation.{Op, and, or, opOf, inverts, opCode, opAt, unit}
+use Rattle.kung.specs.Rule.{some as someOf}
+use Rattle.kung.specs.Operation.{Op, and, or, opCode, opAt, unit}
 use Rattle.kung.specs.Sets.{bit, has, meets}
 use Rattle.kung.specs.Members.{keep, onlyCode}
 use Rattle.kung.specs.Tables.{tab}
 use Rattle.kung.proofs.Finite.{ofCode-code}
 use Rattle.kung.proofs.Listed.{agree}
-use Rattle.netlist.specs.declared.Meaning.{Meaning}
-use Rattle.netlist.specs.Meaning.{meaningOf}
-use Rattle.netlist.proofs.Meanings.{meaning-operation, meaning-inverts}
-use Rattle.search.specs.Search.{onlyOf, only, waits}
+use Rattle.search.specs.Search.{kept, byteOf, nextOf, onlyOf, only, waits}
 use Rattle.visit.specs.Codes.{waitingOf, codeOr}
-
-op-code : (o : Op) → opAt (opCode o) ≡ o
-op-code and = refl
-op-code or = refl
 
 op-digit : (n : ℕ) → n % 2 ≡ opCode (opAt n)
 op-digit n = go (n % 2) (omega arith)
@@ -32,14 +25,6 @@ op-digit n = go (n % 2) (omega arith)
     go zero h = refl
     go (suc zero) h = refl
     go (suc (suc m)) h = absurd (omega arith)
-
--- what a kind byte means: its operation, as a number, and whether it inverts
-module _ (kind : ℕ) {meaning : Meaning} (is : meaning ≡ meaningOf kind) where
-  pub operation-is : opAt (meaning .operation) ≡ opOf (kindOf kind)
-  operation-is = ap (λ (m : Meaning). opAt (m .operation)) is ∙ ap opAt (meaning-operation kind) ∙ op-code (opOf (kindOf kind))
-
-  pub inverts-is : meaning .inverts ≡ inverts (kindOf kind)
-  inverts-is = ap (λ (m : Meaning). m .inverts) is ∙ meaning-inverts kind
 
 pub unit-code : (n : ℕ) → 1 - n % 2 ≡ code (unit (opAt n))
 unit-code n = ap (λ m. 1 - m) (op-digit n) ∙ go (opAt n)
@@ -54,6 +39,10 @@ code-ofCode n = agree (λ i. code (getD classes i c0)) (λ i. i) 8 refl (n % 8) 
 
 pub code-small : (k : Class) → code k < 8
 code-small k = omega (arith, code-ofCode (code k), ap code (ofCode-code k))
+
+-- a visited gate's cell from what it keeps
+pub byte-back : (b : ℕ) → 128 ≤ b → byteOf (kept (ofCode b) (nextOf b)) ≡ b
+byte-back b old = omega (arith, code-ofCode b)
 
 -- the number of a gate that waits
 pub waiter-code : (n p : ℕ) → waitingOf (8 * (n % 2) + p % 8) ≡ waits (opAt n) (ofCode p)

@@ -1,6 +1,6 @@
 pub mod Codes
 pub mod Sources
+mod Totals
 mod Checks
 mod Visits
-mod Totals
 mod Searches

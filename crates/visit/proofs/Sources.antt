@@ -1,44 +1,31 @@
 -- Laws of the card that a search runs on. Assumes nothing.
-use Prim.Native.Nat.{ℕ, zero, suc, _+_, _-_, _≤_, _<_}
+use Prim.Native.Nat.{ℕ, zero, suc, _+_, _%_, _≤_, _<_}
 use native.Mathlib.Omega.{arith}
+use native.Mathlib.Nat.{zero-add, add-zero}
 use native.Mathlib.Decide.{decLt}
-use mathlib.Core.Path.{_≡_, sym, _∙_}
-use mathlib.Core.List.{List, [], _∷_}
+use mathlib.Core.Path.{_≡_, refl, sym, _∙_, ap}
+use mathlib.Core.Bool.{Bool, true, false, cond}
+use mathlib.Core.List.{List}
+use lib.Dec.{eqb, ltb}
 use lib.ListN.{length, getD, List·getD-eq-default}
-use borrow.Author.Tests.{lt-ltb, le-ltb}
+use borrow.Author.Tests.{lt-ltb, le-ltb, ltb-false}
 use Rattle.kung.specs.Class.{ofCode}
-use Rattle.circuit.specs.Circuit.{given, gate, Each, WellFormed}
-use Rattle.words.proofs.Laws.{words-length, words-at}
-use Rattle.netlist.specs.Netlist.{inputsOf, gatesOf, pinAt, cardOf}
-use Rattle.visit.specs.Source.{placeFrom, kindFrom, countFrom, pinsFrom, sourceFrom}
-use Rattle.visit.specs.Lent.{Indexed, SearchReady}
+use Rattle.kung.specs.Rule.{NOT, BUFFER, AND, OR, NAND, NOR}
+use Rattle.kung.specs.Operation.{and, or, opOf, opAt, inverts}
+use Rattle.kung.specs.Tables.{tab}
+use Rattle.kung.proofs.Listed.{getD-tab}
+use Rattle.circuit.specs.Circuit.{given, gate, pinsOf, Each, Falling}
+use Rattle.rows.specs.Rows.{kindIn, countIn, gateIn, invertsIn, pinIn, wordIn, rowKind, rowPins}
+use Rattle.visit.specs.Source.{sourceFrom}
+use Rattle.visit.specs.Lent.{GatesOnly}
 
-pub source-given : (netlist known : List ℕ) (s : ℕ) → getD known s 0 < 8 → sourceFrom netlist known s ≡ given (ofCode (getD known s 0))
+pub source-given : (rows known : List ℕ) (s : ℕ) → getD known s 0 < 8 → sourceFrom rows known s ≡ given (ofCode (getD known s 0))
 unfolding sourceFrom
-source-given netlist known s h = rw (lt-ltb (getD known s 0) 8 h)
+source-given rows known s h = rw (lt-ltb (getD known s 0) 8 h)
 
-pub source-gate : (netlist known : List ℕ) (s : ℕ) → 8 ≤ getD known s 0 → sourceFrom netlist known s ≡ gate (kindFrom netlist s) (pinsFrom netlist s)
+pub source-gate : (rows known : List ℕ) (s : ℕ) → 8 ≤ getD known s 0 → sourceFrom rows known s ≡ gate (rowKind rows s) (rowPins rows s)
 unfolding sourceFrom
-source-gate netlist known s h = rw (le-ltb (getD known s 0) 8 h)
-
--- a gate to be searched
-pub record GateOf (netlist places : List ℕ) (inputs s : ℕ) : Type 0 where
-  pub above : inputs ≤ s
-  pub gate : s - inputsOf netlist < gatesOf netlist
-  pub there : s - inputs < length places
-  pub place : getD places (s - inputs) 0 ≡ placeFrom netlist s
-
-pub gate-of : (netlist places known : List ℕ) (inputs s : ℕ) → Indexed netlist places known inputs → 8 ≤ getD known s 0 → GateOf netlist places inputs s
-gate-of netlist places known inputs s i h =
-    let range = i .gates-only s h in
-    let same = i .inputs-are in
-    let at = i .placed (s - inputs) (omega arith) in
-    record { above = omega arith; gate = omega arith; there = at .0; place = at .1 ∙ rw same }
-
-pub pins-few : {images wanteds netlist places known : List ℕ} {inputs : ℕ} → SearchReady images wanteds netlist places known inputs
-    → (s : ℕ) → 8 ≤ getD known s 0 → countFrom netlist s ≤ 8
-pins-few {netlist = netlist} {places = places} {known = known} {inputs = inputs} r s h =
-    r .few-pins _ (gate-of netlist places known inputs s (r .indexed) h .gate)
+source-gate rows known s h = rw (le-ltb (getD known s 0) 8 h)
 
 -- the signals to be searched are those of `known`
 pub searched-there : (known : List ℕ) (s : ℕ) → 8 ≤ getD known s 0 → s < length known
@@ -48,18 +35,63 @@ searched-there known s h = go (decLt s (length known))
     go (yes less) = less
     go (no past) = absurd (omega (arith, List·getD-eq-default known 0 {n = s} (omega arith)))
 
-each-at : (P : ℕ → Type 0) (xs : List ℕ) (k : ℕ) → Each P xs → k < length xs → P (getD xs k 0)
-each-at P [] k h less = absurd (omega arith)
-each-at P (x ∷ xs) zero h less = h .0
-each-at P (x ∷ xs) (suc k) h less = each-at P xs k (h .1) (omega arith)
+-- a word's operation and inversion are its kind's
+module _ (word : ℕ) where
+  pub operation-is : opAt word ≡ opOf (kindIn word)
+  unfolding kindIn
+  operation-is = go (eqb (word % 2) 0) (eqb (countIn word) 1) (invertsIn word)
+    where
+      go : (a b c : Bool) → cond a and or ≡ opOf (cond a (cond b (cond c NOT BUFFER) (cond c NAND AND)) (cond c NOR OR))
+      go true true true = refl
+      go true true false = refl
+      go true false true = refl
+      go true false false = refl
+      go false b true = refl
+      go false b false = refl
 
--- a pin of a gate is below it
-pub pin-below : (netlist : List ℕ) (s k : ℕ) → WellFormed (cardOf netlist) → inputsOf netlist ≤ s → s - inputsOf netlist < gatesOf netlist
-    → k < countFrom netlist s → getD (pinsFrom netlist s) k 0 < s
-unfolding cardOf
-pin-below netlist s k formed above driven less =
-    let all = each-at (λ x. x < inputsOf netlist + (s - inputsOf netlist)) (pinsFrom netlist s) k (formed (s - inputsOf netlist) driven) (rw words-length less) in
-    omega arith
+  pub inverts-is : invertsIn word ≡ inverts (kindIn word)
+  unfolding kindIn
+  inverts-is = go (eqb (word % 2) 0) (eqb (countIn word) 1) (invertsIn word)
+    where
+      go : (a b c : Bool) → c ≡ inverts (cond a (cond b (cond c NOT BUFFER) (cond c NAND AND)) (cond c NOR OR))
+      go true true true = refl
+      go true true false = refl
+      go true false true = refl
+      go true false false = refl
+      go false b true = refl
+      go false b false = refl
 
-pub pin-is : (netlist : List ℕ) (s k : ℕ) → k < countFrom netlist s → pinAt netlist (placeFrom netlist s) k ≡ getD (pinsFrom netlist s) k 0
-pin-is netlist s k less = sym (words-at (countFrom netlist s) netlist (placeFrom netlist s + 2) k less)
+  -- also where they are read from its last two bits
+  pub gate-operation : opAt (gateIn word) ≡ opOf (kindIn word)
+  gate-operation = let e : word % 4 % 2 ≡ word % 2 = omega arith in ap (λ (x : ℕ). cond (eqb x 0) and or) e ∙ operation-is
+
+-- a gate's pins
+tab-length : (f : ℕ → ℕ) (i n : ℕ) → length (tab f i n) ≡ n
+unfolding tab
+tab-length f i zero = refl
+tab-length f i (suc n) = ap suc (tab-length f (suc i) n)
+
+pub pins-length : (rows : List ℕ) (s : ℕ) → length (rowPins rows s) ≡ countIn (wordIn rows s)
+unfolding rowPins
+pins-length rows s = tab-length (pinIn rows s) 0 (countIn (wordIn rows s))
+
+pub pin-is : (rows : List ℕ) (s k : ℕ) → k < countIn (wordIn rows s) → pinIn rows s k ≡ getD (rowPins rows s) k 0
+unfolding rowPins
+pin-is rows s k less = sym (getD-tab (pinIn rows s) (countIn (wordIn rows s)) k less)
+
+each-tab : (P : ℕ → Type 0) (f : ℕ → ℕ) (n i : ℕ) → ((k : ℕ) → k < n → P (f (i + k))) → Each P (tab f i n)
+unfolding tab
+each-tab P f zero i h = tt
+each-tab P f (suc n) i h = (rw (add-zero i) at (h 0 (omega arith)), each-tab P f n (suc i) (λ k less. let e : suc i + k ≡ i + suc k = omega arith in rw e (h (suc k) (omega arith))))
+
+-- are signals below its own
+pub falling : (rows known : List ℕ) → GatesOnly rows known → Falling (sourceFrom rows known)
+unfolding sourceFrom rowPins
+falling rows codes only s = go (ltb (getD codes s 0) 8) refl
+  where
+    go : (b : Bool) → ltb (getD codes s 0) 8 ≡ b → Each (λ x. x < s) (pinsOf (cond b (given (ofCode (getD codes s 0))) (gate (rowKind rows s) (rowPins rows s))))
+    go true e = tt
+    go false e =
+        let row = only s (ltb-false (getD codes s 0) 8 e) in
+        each-tab (λ x. x < s) (pinIn rows s) (countIn (wordIn rows s)) 0
+        (λ k less. rw (zero-add k) (row .below k (omega (arith, row .count-eight))))

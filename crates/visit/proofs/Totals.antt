@@ -1,26 +1,67 @@
--- Totals over cells, from one cell to the next. Assumes nothing.
-use Prim.Native.Nat.{ℕ, _+_, _≤_, _<_}
+-- The sums of the cells, which are kept as the search goes. Assumes nothing.
+use Prim.Native.Nat.{ℕ, suc, _+_, _*_, _≤_, _<_}
 use native.Mathlib.Omega.{arith}
-use native.Mathlib.Numerals.{add-one}
-use mathlib.Core.Path.{_≡_}
-use mathlib.Core.List.{List}
+use mathlib.Core.Path.{_≡_, ap₂}
+use mathlib.Core.List.{List, [], _∷_}
 use mathlib.Core.Bool.{Bool, true, false, cond}
 use lib.Dec.{ltb}
-use lib.ListN.{length, getD, drop}
-use lib.Seq.{drop-cons, drop-length}
-use Rattle.search.specs.Search.{total, visitedOf}
+use lib.ListN.{length, getD}
+use borrow.Author.Tests.{lt-ltb, le-ltb}
+use Rattle.kung.specs.Class.{Class}
+use Rattle.search.specs.Search.{kept, put, nextOf, total, visitedOf, gatesVisited, pinsTaken}
+use Rattle.search.proofs.Laws.{put-same, nextOf-byteOf}
+use Rattle.search.proofs.Counts.{total-put, visited-kept}
+use Rattle.visit.specs.Visits.{tallyOf}
 
-pub total-next : (f : ℕ → ℕ) (cells : List ℕ) (i : ℕ) → i < length cells → total f (drop i cells) ≡ f (getD cells i 0) + total f (drop (i + 1) cells)
+-- a sum of small numbers is small
+total-few : (f : ℕ → ℕ) (most : ℕ) (cells : List ℕ) → ((t : ℕ) → f (getD cells t 0) ≤ most) → total f cells ≤ most * length cells
 unfolding total
-total-next f cells i h = rw (add-one, drop-cons cells i 0 h)
+total-few f most [] h = omega arith
+total-few f most (b ∷ cells) h =
+    let here : f b ≤ most = h 0 in
+    let more : most * suc (length cells) ≡ most + most * length cells = omega arith in
+    omega (arith, total-few f most cells (λ t. h (suc t)))
 
-pub total-end : (f : ℕ → ℕ) (cells : List ℕ) (i : ℕ) → i ≡ length cells → total f (drop i cells) ≡ 0
-unfolding total
-total-end f cells i e = rw (e, drop-length cells)
-
-pub visited-once : (b : ℕ) → visitedOf b ≤ 1
+visited-once : (b : ℕ) → visitedOf b ≤ 1
 visited-once b = go (ltb b 128)
   where
     go : (t : Bool) → cond t 0 1 ≤ 1
     go true = omega arith
     go false = omega arith
+
+pub gates-few : (cells : List ℕ) → gatesVisited cells ≤ length cells
+gates-few cells = omega (arith, total-few visitedOf 1 cells (λ t. visited-once (getD cells t 0)))
+
+pub pins-few : (cells : List ℕ) → ((t : ℕ) → getD cells t 0 < 256) → pinsTaken cells ≤ 15 * length cells
+pins-few cells bytes = total-few nextOf 15 cells (λ t. omega (arith, bytes t))
+
+-- one cell written: the sums before and after
+pub tally-put : (cells : List ℕ) (s : ℕ) (p : Class) (next gates pins : ℕ) → s < length cells
+    → gates + visitedOf (getD cells s 0) ≡ gatesVisited cells + 1 → pins + nextOf (getD cells s 0) ≡ pinsTaken cells + next
+    → gates ∷ pins ∷ [] ≡ tallyOf (put cells s (kept p next))
+tally-put cells s p next gates pins there g t =
+    ap₂ (λ (x y : ℕ). x ∷ y ∷ [])
+    (omega (arith, total-put visitedOf cells s (kept p next) there, visited-kept p next))
+    (omega (arith, total-put nextOf cells s (kept p next) there, nextOf-byteOf p next))
+
+-- a gate's mark
+pub unvisited : (b : ℕ) → b < 128 → visitedOf b ≡ 0
+unvisited b h = rw (lt-ltb b 128 h)
+
+pub visited : (b : ℕ) → 128 ≤ b → visitedOf b ≡ 1
+visited b h = rw (le-ltb b 128 h)
+
+-- the cell of a gate that is visited and takes its pin `next` next
+pub record At (s next : ℕ) (cells : List ℕ) : Type 0 where
+  pub seen : 128 ≤ getD cells s 0
+  pub next-is : nextOf (getD cells s 0) ≡ next
+
+-- as it is written
+pub at-put : (cells : List ℕ) (s : ℕ) (p : Class) (next : ℕ) → s < length cells → At s next (put cells s (kept p next))
+at-put cells s p next there =
+    record { seen = rw (put-same cells s (kept p next) there) (omega arith); next-is = rw (put-same cells s (kept p next) there) (nextOf-byteOf p next) }
+
+-- written again with another p
+pub tally-again : (cells : List ℕ) (s : ℕ) (p : Class) (next : ℕ) → s < length cells → At s next cells → tallyOf cells ≡ tallyOf (put cells s (kept p next))
+tally-again cells s p next there at =
+    tally-put cells s p next (gatesVisited cells) (pinsTaken cells) there (omega (arith, visited (getD cells s 0) (at .seen))) (omega (arith, at .next-is))

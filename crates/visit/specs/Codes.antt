@@ -1,19 +1,11 @@
 -- What the code's numbers say of waiting gates, visits' ends and what stands behind a pin.
-use Prim.Native.Nat.{ℕ, _+_, _/_}
+use Prim.Native.Nat.{ℕ, _/_}
 use mathlib.Core.Bool.{cond}
-use mathlib.Core.List.{List}
 use mathlib.Core.Option.{Option, none, some}
 use lib.Dec.{ltb}
 use Rattle.kung.specs.Class.{Class, code, ofCode}
-use Rattle.kung.specs.Rule.{kindOf}
-use Rattle.kung.specs.Operation.{Op, opAt, join}
-use Rattle.circuit.specs.Circuit.{Source, gate}
-use Rattle.words.specs.Words.{wordsAt}
-use Rattle.netlist.specs.Netlist.{kindAt, countAt}
-use Rattle.search.specs.Search as search
-use Rattle.search.specs.Search.{Waiting, nobody, waits, Outcome, stopped, known, unfinished, told, behind}
-use Rattle.visit.specs.declared.Driver.{Driver}
-use Rattle.visit.specs.declared.Driver.the-variants.{Told, Behind}
+use Rattle.kung.specs.Operation.{opAt, join, unit}
+use Rattle.search.specs.Search.{kept, byteOf, Waiting, nobody, waits, Outcome, stopped, known, unfinished, Driver, told, behind}
 use Rattle.visit.specs.declared.Verdict.{Verdict}
 use Rattle.visit.specs.declared.Verdict.the-variants.{Clean, Hazardous}
 
@@ -26,28 +18,29 @@ abbrev pub codeOr : Option Class → ℕ
 codeOr (some k) = code k
 codeOr none = 8
 
--- how a visit ends, as a number: the code of a known class, 8 and the code of an unfinished gate's result, or 16
-abbrev pub endingOf : Outcome → ℕ
-endingOf stopped = 16
-endingOf (known k) = code k
-endingOf (unfinished r) = 8 + code r
+-- How a visit ends, as the number with which the waiting gate goes on: the known class joined to its p, or the result of (c); 8 where the search
+-- stops. Where nobody waits it is the known class itself.
+abbrev pub endingOf : Waiting → Outcome → ℕ
+endingOf nobody stopped = 8
+endingOf nobody (known k) = code k
+endingOf nobody (unfinished r) = 8
+endingOf (waits o p) stopped = 8
+endingOf (waits o p) (known k) = code (join o p k)
+endingOf (waits o p) (unfinished r) = code r
 
--- what a gate's checks find: how its visit ends, or 17 where it goes on
-abbrev pub checkOf : Option Outcome → ℕ
-checkOf (some e) = endingOf e
-checkOf none = 17
+-- what a gate's checks find: how its visit ends, where they end it
+abbrev pub checkOf : Waiting → Option Outcome → ℕ
+checkOf wt (some e) = endingOf wt e
+checkOf wt none = 8
 
--- the waiting gate's p after a visit behind it that did not stop the search
-abbrev pub carriedFrom : (ending : ℕ) → Op → Class → Class
-carriedFrom ending o p = cond (ltb ending 8) (join o p (ofCode ending)) (ofCode ending)
+-- what stands behind a pin: the class that is told, or 8 for a gate to visit
+abbrev pub toldOf : Driver → ℕ
+toldOf (told k) = code k
+toldOf (behind p next) = 8
 
--- the gate of the record at a place
-abbrev pub gateAt : (netlist : List ℕ) (place : ℕ) → Source Class
-gateAt netlist place = gate (kindOf (kindAt netlist place)) (wordsAt (countAt netlist place) netlist (place + 2))
-
-abbrev pub driverCode : search.Driver → Driver
-driverCode (told k) = Told (code k)
-driverCode (behind p next) = Behind (code p) next
+-- the cell of a gate on arrival, by its word's last bits and what its cell is before: "`1` for AND-like kinds at first and `0` for OR and NOR"
+unfoldable pub begunFrom : (gate cell : ℕ) → ℕ
+begunFrom gate cell = cond (ltb cell 128) (byteOf (kept (unit (opAt gate)) 0)) cell
 
 -- "If the output's gate becomes known, it is clean."
 abbrev pub verdictFrom : (ending : ℕ) → Verdict

@@ -1,39 +1,43 @@
 -- The contracts of the cycle of visits.
-use Prim.Native.Nat.{ℕ, suc, _≤_, _<_}
+use Prim.Native.Nat.{ℕ, _≤_, _<_}
 use mathlib.Core.Path.{_≡_}
-use mathlib.Core.Bool.{Bool}
-use mathlib.Core.List.{List}
-use lib.ListN.{getD, drop}
+use mathlib.Core.List.{List, [], _∷_}
+use lib.ListN.{length, getD}
 use Rattle.kung.specs.Class.{Class, ofCode}
-use Rattle.kung.specs.Rule.{Kind}
-use Rattle.kung.specs.Operation.{opOf, opAt, inverts}
-use Rattle.kung.specs.Sets.{wantedFor}
-use Rattle.circuit.specs.Circuit.{Source}
-use Rattle.search.specs.Search.{kept, put, pinsLeft, waits, Ended, Visit, takePin, visit}
-use Rattle.visit.specs.Source.{sourceFrom, kindFrom, pinsFrom}
-use Rattle.visit.specs.Codes.{waitingOf, endingOf}
+use Rattle.search.specs.Search.{kept, put, nextOf, gatesVisited, pinsTaken, cellAt, driverOf, Waiting, Ended, takePin, visit}
+use Rattle.visit.specs.Source.{sourceFrom}
+use Rattle.visit.specs.Codes.{waitingOf, endingOf, toldOf, begunFrom}
 
 -- how a visit ends, with the cells that it leaves
-abbrev pub endedOf : Ended → ℕ × List ℕ
-endedOf ended = (endingOf (ended .0), ended .1)
+abbrev pub endedOf : Waiting → Ended → ℕ × List ℕ
+endedOf wt ended = (endingOf wt (ended .0), ended .1)
 
--- A visit of signal s does what the definition says, for every number that bounds the signals.
-pub record Visits (netlist known : List ℕ) (s p next wanted waiter : ℕ) (entry exit : List ℕ) (r : ℕ) : Type 0 where
-  pub is : (n : ℕ) → s < n → (r, exit) ≡ endedOf (visit (sourceFrom netlist known) n s (ofCode p) next wanted (waitingOf waiter) entry)
+-- The two sums of the cells are kept as the search goes: gates visited and pins taken.
+abbrev pub tallyOf : List ℕ → List ℕ
+tallyOf cells = gatesVisited cells ∷ pinsTaken cells ∷ []
 
--- pin `next` of a gate of signal s is taken, which counts before the visit behind it
-unfoldable pub takeNext : (ℕ → Source Class) → Visit → Kind → (pins : List ℕ) (s : ℕ) → Class → (next wanted : ℕ) → List ℕ → Ended
-takeNext src visit d ps s p next w cells =
-    takePin src visit (getD ps next 0) (wantedFor (opOf d) (inverts d) p (pinsLeft (drop (suc next) ps)) w) (waits (opOf d) p)
-    (put cells s (kept p (suc next)))
+-- what is lent to write, with a cell for signal s
+pub record Lends (s : ℕ) (cells tally : List ℕ) : Type 0 where
+  pub there : s < length cells
+  pub few : length cells ≤ 2304
+  pub tallied : tally ≡ tallyOf cells
 
--- the operation of signal s's gate, as a number, and whether it inverts
-pub record Means (netlist : List ℕ) (s operation : ℕ) (inverted : Bool) : Type 0 where
-  pub operation-is : opAt operation ≡ opOf (kindFrom netlist s)
-  pub inverts-is : inverted ≡ inverts (kindFrom netlist s)
+-- a visited gate's cell is written
+pub record Writes (s : ℕ) (p : Class) (next : ℕ) (entry exit tally : List ℕ) : Type 0 where
+  pub cells : exit ≡ put entry s (kept p next)
+  pub tallied : tally ≡ tallyOf exit
 
-pub record Takes (netlist known : List ℕ) (s p next wanted : ℕ) (entry exit : List ℕ) (r : ℕ) : Type 0 where
-  pub is : (n : ℕ) → s ≤ n
-      → (r, exit)
-      ≡ endedOf
-      (takeNext (sourceFrom netlist known) (visit (sourceFrom netlist known) n) (kindFrom netlist s) (pinsFrom netlist s) s (ofCode p) next wanted entry)
+-- on arrival the gate's cell r is at hand, and a gate that is new counts as visited
+pub record Arrives (s gate : ℕ) (entry exit tally : List ℕ) (r : ℕ) : Type 0 where
+  pub begun : r ≡ begunFrom gate (getD entry s 0)
+  pub writes : Writes s (ofCode r) (nextOf r) entry exit tally
+
+-- what is told of signal x's class before a visit, 8 where it has to be visited
+abbrev pub toldAt : (rows known cells : List ℕ) (x : ℕ) → ℕ
+toldAt rows known cells x = toldOf (driverOf (sourceFrom rows known x) (cellAt cells x))
+
+-- A pin on signal x is taken, as the definition says, for every number that bounds the signals.
+pub record Takes (rows known : List ℕ) (x wanted waiter : ℕ) (entry exit tally : List ℕ) (r : ℕ) : Type 0 where
+  pub is : (n : ℕ) → x < n
+      → (r, exit) ≡ endedOf (waitingOf waiter) (takePin (sourceFrom rows known) (visit (sourceFrom rows known) n) x wanted (waitingOf waiter) entry)
+  pub tallied : tally ≡ tallyOf exit

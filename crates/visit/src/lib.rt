@@ -1,45 +1,37 @@
 // CORE's cycle of visits: the search of one signal.
 ghost use mathlib.Core.Path.{_≡_};
-ghost use Prim.Native.Nat.{_+_, _-_, _*_, _≤_, _<_};
-ghost use lib.Dec.{ltb};
+ghost use mathlib.Core.Bool.{cond, true};
+ghost use Prim.Native.Nat.{_+_, _*_, _/_, _≤_, _<_};
+ghost use lib.Dec.{eqb, ltb};
 ghost use lib.ListN.{length, getD};
-ghost use Rattle.kung.specs.Class.{code, ofCode};
-ghost use Rattle.kung.specs.Operation.{opAt, unit};
-ghost use Rattle.kung.specs.Sets.{has, possible, wantedFor};
-ghost use Rattle.kung.specs.Tables.{imageTable, wantedTable};
-ghost use Rattle.netlist.specs.Netlist.{countAt, pinAt};
-ghost use Rattle.search.specs.Search.{kept, cellOf, cellAt, put, fresh, sameResult, waits, driverOf, checks, judged, visitedOf, nextOf, total, search};
-ghost use Rattle.visit.specs.Source.{sourceFrom, countFrom};
+ghost use Rattle.kung.specs.Class.{ofCode};
+ghost use Rattle.kung.specs.Operation.{opAt};
+ghost use Rattle.kung.specs.Sets.{has, possible};
+ghost use Rattle.kung.specs.Tables.{imageTable, preimage};
+ghost use Rattle.kung.specs.Lookup.{lookupTable};
+ghost use Rattle.rows.specs.Rows.{countIn, gateIn, invertsIn, pinIn};
+ghost use Rattle.search.specs.Search.{kept, nextOf, put, fresh, only, sameResult, waits, checks, judged, search};
+ghost use Rattle.visit.specs.Source.{sourceFrom};
 ghost use Rattle.visit.specs.Found.{verdictCode, foundOf, cellsLeft};
-ghost use Rattle.visit.specs.Lent.{Indexed, SearchReady};
-ghost use Rattle.visit.specs.Codes.{gateAt, waitingOf, codeOr, checkOf, carriedFrom, driverCode, verdictFrom};
-ghost use Rattle.visit.specs.Visits.{Visits, Means, Takes};
+ghost use Rattle.visit.specs.Lent.{GatesOnly, SearchReady};
+ghost use Rattle.visit.specs.Codes.{waitingOf, codeOr, checkOf, verdictFrom};
+ghost use Rattle.visit.specs.Visits.{Lends, Writes, Arrives, Takes, toldAt};
 use kung::image_of;
-use kung::joined;
+use kung::joined_by;
 use kung::only_class;
 use kung::possible_set;
-use kung::wanted_set;
-use netlist::count_at;
-use netlist::kind_at;
-use netlist::meaning_of;
-use words::word_in;
+use kung::preimage_of;
+use kung::reach_of;
+use kung::stop_bits;
+use kung::swapped;
+use rows::pin_of;
+use rows::word_of;
 
-// How a visit ends, as a number: the class of a gate that is known, UNFINISHED and the result that the waiting gate takes, or STOPPED.
-const UNFINISHED: u8 = 8;
-
-const STOPPED: u8 = 16;
-
-// The checks let the visit go on.
-const GOES_ON: u8 = 17;
+// How a visit ends: with the class that the waiting gate goes on with, or STOPPED.
+const STOPPED: u8 = 8;
 
 // No gate waits for the output's.
 const NOBODY: u8 = 16;
-
-// What stands behind a pin: a class, or a gate to visit.
-enum Driver {
-    Told { class: u8 },
-    Behind { p: u8, next: u8 },
-}
 
 pub enum Verdict {
     Clean { class: u8 },
@@ -53,18 +45,58 @@ pub struct Found {
     pub pins: usize,
 }
 
-// The class that p starts from, by the gate's operation.
-fn unit_of(operation: u8) -> u8
-    ensures { λ r. ⌜ r ≡ code (unit (opAt operation)) ⌝ }
+// Gates visited and pins taken.
+pub struct Counts {
+    pub gates: usize,
+    pub pins: usize,
+}
+
+// A gate's operation, and 2 more where it inverts.
+fn gate_in(word: u16) -> u8
+    ensures { λ r. ⌜ r ≡ gateIn word ⌝ }
 {
-    1 - operation % 2
+    (word % 4) as u8
+}
+
+// Its number of pins.
+fn count_in(word: u16) -> u8
+    requires { ⌜ countIn word ≤ 8 ⌝ }
+    ensures { λ r. ⌜ r ≡ countIn word ⌝ }
+{
+    (word / 4) as u8
+}
+
+// Pin `next` of signal s's gate.
+fn pin_at(rows: &[u16], s: usize, next: u8) -> usize
+    requires { ⌜ (9 * s + 9 ≤ length (now rows)) × (next < 9) ⌝ }
+    ensures { λ r. ⌜ r ≡ pinIn (now (rows .entry)) s next ⌝ }
+{
+    pin_of(rows, s, next as usize) as usize
 }
 
 // A gate that waits with p, as a number below NOBODY.
-fn waiter_of(operation: u8, p: u8) -> u8
-    ensures { λ r. ⌜ waitingOf r ≡ waits (opAt operation) (ofCode p) ⌝ }
+fn waiter_of(gate: u8, p: u8) -> u8
+    ensures { λ r. ⌜ (waitingOf r ≡ waits (opAt gate) (ofCode p)) × (r < 16) ⌝ }
 {
-    8 * (operation % 2) + p % 8
+    8 * (gate % 2) + p % 8
+}
+
+// What the gate behind a pin is to reach, before the waiting gate's p is joined: `left` where pins are left after that one.
+fn goal_of(left: bool, reach: u8, want: u8) -> u8
+    ensures { λ r. ⌜ r ≡ cond left reach want ⌝ }
+{
+    if left { reach } else { want }
+}
+
+// Whether the checks end the visit: always where no pin is left, else by the stop bits.
+fn is_over(stop: u8, p: u8, left: bool) -> bool
+    ensures { λ r. ⌜ r ≡ cond left (has stop (ofCode p)) true ⌝ }
+{
+    if left {
+        (stop >> (p % 8)) % 2 == 1
+    } else {
+        true
+    }
 }
 
 // A visited gate's cell is written.
@@ -73,6 +105,31 @@ fn keep(cells: &mut [u8], s: usize, p: u8, next: u8)
     ensures { λ r. ⌜ now (cells .exit) ≡ put (now (cells .entry)) s (kept (ofCode p) next) ⌝ }
 {
     cells[s] = 128 + 8 * next + p % 8;
+}
+
+// A gate that is new counts as visited on arrival, and starts from its unit. Its cell.
+fn arrive(cells: &mut [u8], tally: &mut [u16; 2], s: usize, gate: u8) -> u8
+    requires { ⌜ Lends s (now cells) (now tally) ⌝ }
+    ensures { λ r. ⌜ Arrives s gate (now (cells .entry)) (now (cells .exit)) (now (tally .exit)) r ⌝ }
+{
+    let cell = cells[s];
+    if 128 <= cell {
+        return cell;
+    }
+    let begun = 129 - gate % 2;
+    tally[0] = tally[0] + 1;
+    cells[s] = begun;
+    begun
+}
+
+// A pin counts as taken before the visit behind it.
+fn count_pin(cells: &mut [u8], tally: &mut [u16; 2], s: usize, p: u8, next: u8)
+    requires { ⌜ Lends s (now cells) (now tally) ⌝ }
+    requires { ⌜ (128 ≤ getD (now cells) s 0) × (nextOf (getD (now cells) s 0) + 1 ≡ next) × (next < 16) ⌝ }
+    ensures { λ r. ⌜ Writes s (ofCode p) next (now (cells .entry)) (now (cells .exit)) (now (tally .exit)) ⌝ }
+{
+    tally[1] = tally[1] + 1;
+    keep(cells, s, p, next);
 }
 
 // Check (c): the one result that the waiting gate gets of any class of the set, or 8.
@@ -87,284 +144,137 @@ fn same_result_of(images: &[u8; 4096], waiter: u8, set: u8) -> u8
     }
 }
 
-// A gate's checks, in order.
+// The checks of a gate whose visit they end, in order.
 fn check_gate(
     images: &[u8; 4096],
-    operation: u8,
-    inverted: bool,
+    lookup: &[u8; 780],
+    gate: u8,
     p: u8,
     left: bool,
     wanted: u8,
     waiter: u8,
 ) -> u8
-    requires { ⌜ now images ≡ imageTable ⌝ }
-    ensures { λ r. ⌜ r ≡ checkOf (checks (possible (opAt operation) inverted (ofCode p) left) wanted (waitingOf waiter)) ⌝ }
+    requires { ⌜ (now images ≡ imageTable) × (now lookup ≡ lookupTable) × (waiter < 17) ⌝ }
+    ensures { λ r. ⌜ r ≡ checkOf (waitingOf waiter) (checks (possible (opAt gate) (eqb (gate / 2) 1) (ofCode p) left) wanted (waitingOf waiter)) ⌝ }
 {
-    let set = possible_set(images, operation, inverted, p, left);
+    let set = possible_set(images, gate, gate / 2 == 1, p, left);
     let class = only_class(set);
     if set & wanted == 0 {
         return STOPPED;
     }
     if class < 8 {
-        return class;
+        return joined_by(lookup, waiter, class);
     }
-    let result = same_result_of(images, waiter, set);
-    if result < 8 {
-        return UNFINISHED + result;
-    }
-    GOES_ON
+    same_result_of(images, waiter, set)
 }
 
-// The waiting gate's p after a visit behind it that did not stop the search.
-fn carry(images: &[u8; 4096], operation: u8, p: u8, ending: u8) -> u8
-    requires { ⌜ (now images ≡ imageTable) × (ending < 16) ⌝ }
-    ensures { λ r. ⌜ r ≡ code (carriedFrom ending (opAt operation) (ofCode p)) ⌝ }
+// The class of a visited gate whose possible set has one, or 8.
+fn told_by(images: &[u8; 4096], word: u16, cell: u8) -> u8
+    requires { ⌜ (now images ≡ imageTable) × (128 ≤ cell) × (countIn word ≤ 8) ⌝ }
+    ensures { λ r. ⌜ r ≡ codeOr (only (possible (opAt word) (invertsIn word) (ofCode cell) (ltb (nextOf cell) (countIn word)))) ⌝ }
 {
-    if ending < UNFINISHED {
-        joined(images, operation, p, ending)
-    } else {
-        ending - UNFINISHED
-    }
+    let gate = gate_in(word);
+    let left = cell / 8 - 16 < count_in(word);
+    only_class(possible_set(images, gate, gate / 2 == 1, cell, left))
 }
 
-// The place of the record of signal s's gate.
-fn place_of(places: &[u16], inputs: usize, s: usize) -> u16
-    requires { ⌜ (inputs ≤ s) × (s - inputs < length (now places)) ⌝ }
-    ensures { λ r. ⌜ r ≡ getD (now (places .entry)) (s - inputs) 0 ⌝ }
-{
-    let gate = s - inputs;
-    places[gate]
-}
-
-// Pin `next` of the record at a place, whose pins are inside the netlist.
-fn pin_in(netlist: &[u8], place: u16, next: u8) -> usize
-    requires { ⌜ place + 4 + 2 * next ≤ length (now netlist) ⌝ }
-    ensures { λ r. ⌜ r ≡ pinAt (now (netlist .entry)) place next ⌝ }
-{
-    word_in(netlist, place as usize + 2 + 2 * (next as usize)) as usize
-}
-
-// The wanted set of the gate behind pin `next` of the record at a place.
-fn wanted_behind(
-    wanteds: &[u8; 576],
-    netlist: &[u8],
-    place: u16,
-    operation: u8,
-    inverted: bool,
-    p: u8,
-    next: u8,
-    wanted: u8,
-) -> u8
-    requires { ⌜ (now wanteds ≡ wantedTable) × (next < 255) ⌝ }
-    ensures { λ r. ⌜ r ≡ wantedFor (opAt operation) inverted (ofCode p) (ltb (next + 1) (countAt (now (netlist .entry)) place)) wanted ⌝ }
-{
-    let more = next + 1 < count_at(netlist, place);
-    wanted_set(wanteds, operation, inverted, p, more, wanted)
-}
-
-// What stands behind a pin on a gate to be searched: its class where its possible set has one.
-fn gate_driver(images: &[u8; 4096], netlist: &[u8], place: u16, cell: u8) -> Driver
-    requires { ⌜ now images ≡ imageTable ⌝ }
-    ensures { λ r. ⌜ r ≡ driverCode (driverOf (gateAt (now (netlist .entry)) place) (cellOf cell)) ⌝ }
-{
-    let meaning = meaning_of(kind_at(netlist, place));
-    if cell < 128 {
-        return Driver::Behind {
-            p: unit_of(meaning.operation),
-            next: 0,
-        };
-    }
-    let next = cell / 8 - 16;
-    let left = next < count_at(netlist, place);
-    let class = only_class(possible_set(images, meaning.operation, meaning.inverts, cell, left));
-    if class < 8 {
-        Driver::Told { class: class }
-    } else {
-        Driver::Behind {
-            p: cell % 8,
-            next: next,
-        }
-    }
-}
-
-// What stands behind a pin on signal x.
-fn driver_at(
-    images: &[u8; 4096],
-    netlist: &[u8],
-    places: &[u16],
-    known: &[u8],
-    cells: &[u8],
-    inputs: usize,
-    x: usize,
-) -> Driver
-    requires { ⌜ now images ≡ imageTable ⌝ }
-    requires { ⌜ Indexed (now netlist) (now places) (now known) inputs ⌝ }
+// What is told of signal x's class without a visit, or 8.
+fn told_at(images: &[u8; 4096], rows: &[u16], known: &[u8], cells: &[u8], x: usize) -> u8
+    requires { ⌜ (now images ≡ imageTable) × GatesOnly (now rows) (now known) ⌝ }
     requires { ⌜ (x < length (now known)) × (x < length (now cells)) ⌝ }
-    ensures { λ r. ⌜ r ≡ driverCode (driverOf (sourceFrom (now (netlist .entry)) (now (known .entry)) x) (cellAt (now (cells .entry)) x)) ⌝ }
+    ensures { λ r. ⌜ r ≡ toldAt (now (rows .entry)) (now (known .entry)) (now (cells .entry)) x ⌝ }
 {
     let class = known[x];
     if class < 8 {
-        return Driver::Told { class: class };
+        return class;
     }
-    gate_driver(images, netlist, place_of(places, inputs, x), cells[x])
+    let cell = cells[x];
+    if cell < 128 {
+        return 8;
+    }
+    told_by(images, word_of(rows, x), cell)
 }
 
-// A visit of signal s, whose gate starts from p `from` and pin `first`: its pins are taken in turn, until the checks end the visit.
+// A visit of signal s, of whose class nothing is told: its gate's pins are taken in turn, until the checks end the visit.
 fn visit(
     images: &[u8; 4096],
-    wanteds: &[u8; 576],
-    netlist: &[u8],
-    places: &[u16],
+    lookup: &[u8; 780],
+    rows: &[u16],
     known: &[u8],
     cells: &mut [u8],
-    inputs: usize,
+    tally: &mut [u16; 2],
     s: usize,
-    from: u8,
-    first: u8,
     wanted: u8,
     waiter: u8,
 ) -> u8
-    requires { ⌜ SearchReady (now images) (now wanteds) (now netlist) (now places) (now known) inputs ⌝ }
-    requires { ⌜ (8 ≤ getD (now known) s 0) × (s < length (now cells)) × (first < 16) ⌝ }
-    ensures { λ r. ⌜ Visits (now (netlist .entry)) (now (known .entry)) s from first wanted waiter (now (cells .entry)) (now (cells .exit)) r ⌝ }
+    requires { ⌜ SearchReady (now images) (now lookup) (now rows) (now known) ⌝ }
+    requires { ⌜ Lends s (now cells) (now tally) × (toldAt (now rows) (now known) (now cells) s ≡ 8) × (waiter < 17) ⌝ }
+    ensures { λ r. ⌜ Takes (now (rows .entry)) (now (known .entry)) s wanted waiter (now (cells .entry)) (now (cells .exit)) (now (tally .exit)) r ⌝ }
 {
-    let place = place_of(places, inputs, s);
-    let meaning = meaning_of(kind_at(netlist, place));
-    let operation = meaning.operation;
-    let inverted = meaning.inverts;
-    let count = count_at(netlist, place);
-    keep(cells, s, from, first);
-    let mut p = from;
-    let mut next = first;
+    let word = word_of(rows, s);
+    let gate = gate_in(word);
+    let count = count_in(word);
+    let want = swapped(gate / 2 == 1, wanted);
+    let reach = reach_of(lookup, gate, want);
+    let stop = stop_bits(lookup, waiter, gate, reach);
+    let cell = arrive(cells, tally, s, gate);
+    let mut p = cell % 8;
+    let mut next = cell / 8 - 16;
     loop {
-        let check = check_gate(images, operation, inverted, p, next < count, wanted, waiter);
-        if check < GOES_ON {
-            return check;
+        if is_over(stop, p, next < count) {
+            return check_gate(images, lookup, gate, p, next < count, wanted, waiter);
         }
+        let x = pin_at(rows, s, next);
+        next += 1;
+        count_pin(cells, tally, s, p, next);
+        let goal = goal_of(next < count, reach, want);
         let ending = take(
             images,
-            wanteds,
-            netlist,
-            places,
+            lookup,
+            rows,
             known,
             cells,
-            inputs,
-            s,
-            operation,
-            inverted,
-            p,
-            next,
-            wanted,
+            tally,
+            x,
+            waiter_of(gate, p),
+            goal,
         );
         if ending == STOPPED {
-            return ending;
+            return STOPPED;
         }
-        p = carry(images, operation, p, ending);
-        next += 1;
+        p = ending;
         keep(cells, s, p, next);
     }
 }
 
-// Pin `next` of signal s's gate is taken, which counts at once: the gate behind it is visited, unless its class is known.
+// A pin on signal x is taken: the gate behind it is visited, unless its class is told.
 fn take(
     images: &[u8; 4096],
-    wanteds: &[u8; 576],
-    netlist: &[u8],
-    places: &[u16],
+    lookup: &[u8; 780],
+    rows: &[u16],
     known: &[u8],
     cells: &mut [u8],
-    inputs: usize,
-    s: usize,
-    operation: u8,
-    inverted: bool,
-    p: u8,
-    next: u8,
-    wanted: u8,
+    tally: &mut [u16; 2],
+    x: usize,
+    waiter: u8,
+    goal: u8,
 ) -> u8
-    requires { ⌜ SearchReady (now images) (now wanteds) (now netlist) (now places) (now known) inputs ⌝ }
-    requires { ⌜ (8 ≤ getD (now known) s 0) × (s < length (now cells)) × (next < countFrom (now netlist) s) × Means (now netlist) s operation inverted ⌝ }
-    ensures { λ r. ⌜ Takes (now (netlist .entry)) (now (known .entry)) s p next wanted (now (cells .entry)) (now (cells .exit)) r ⌝ }
+    requires { ⌜ SearchReady (now images) (now lookup) (now rows) (now known) ⌝ }
+    requires { ⌜ Lends x (now cells) (now tally) × (x < length (now known)) × (waiter < 16) ⌝ }
+    ensures { λ r. ⌜ Takes (now (rows .entry)) (now (known .entry)) x (preimage (opAt (waiter / 8)) (ofCode waiter) goal) waiter (now (cells .entry)) (now (cells .exit)) (now (tally .exit)) r ⌝ }
 {
-    let place = place_of(places, inputs, s);
-    let x = pin_in(netlist, place, next);
-    keep(cells, s, p, next + 1);
-    let driver = driver_at(images, netlist, places, known, cells, inputs, x);
-    match driver {
-        Driver::Told { class } => class,
-        Driver::Behind {
-            p: from,
-            next: first,
-        } => visit(
-            images,
-            wanteds,
-            netlist,
-            places,
-            known,
-            cells,
-            inputs,
-            x,
-            from,
-            first,
-            wanted_behind(
-                wanteds,
-                netlist,
-                place,
-                operation,
-                inverted,
-                p,
-                next,
-                wanted,
-            ),
-            waiter_of(operation, p),
-        ),
+    let class = told_at(images, rows, known, cells, x);
+    if class < 8 {
+        return joined_by(lookup, waiter, class);
     }
-}
-
-// Gates visited and pins taken.
-pub struct Counts {
-    pub gates: usize,
-    pub pins: usize,
-}
-
-fn visited_in(cell: u8) -> u16
-    ensures { λ r. ⌜ r ≡ visitedOf cell ⌝ }
-{
-    if cell < 128 { 0 } else { 1 }
-}
-
-fn taken_in(cell: u8) -> u16
-    ensures { λ r. ⌜ r ≡ nextOf cell ⌝ }
-{
-    if cell < 128 {
-        0
-    } else {
-        (cell / 8 - 16) as u16
-    }
+    let wanted = preimage_of(lookup, waiter, goal);
+    visit(images, lookup, rows, known, cells, tally, x, wanted, waiter)
 }
 
 fn wide(x: u16) -> usize
     ensures { λ r. ⌜ r ≡ x ⌝ }
 {
     x as usize
-}
-
-// The sums have 16 bits, which are added up many at a time.
-fn count(cells: &[u8]) -> Counts
-    requires { ⌜ length (now cells) ≤ 4096 ⌝ }
-    ensures { λ r. ⌜ (r .gates ≡ total visitedOf (now (cells .entry))) × (r .pins ≡ total nextOf (now (cells .entry))) ⌝ }
-{
-    let mut gates: u16 = 0;
-    let mut pins: u16 = 0;
-    let mut i: usize = 0;
-    while i < cells.len() {
-        gates += visited_in(cells[i]);
-        pins += taken_in(cells[i]);
-        i += 1;
-    }
-    Counts {
-        gates: wide(gates),
-        pins: wide(pins),
-    }
 }
 
 fn clear(cells: &mut [u8])
@@ -399,7 +309,7 @@ fn judge(wanted: u8, class: u8) -> Verdict
 fn verdict_of(ending: u8) -> Verdict
     ensures { λ r. ⌜ r ≡ verdictFrom ending ⌝ }
 {
-    if ending < UNFINISHED {
+    if ending < STOPPED {
         Verdict::Clean { class: ending }
     } else {
         Verdict::Hazardous
@@ -409,19 +319,17 @@ fn verdict_of(ending: u8) -> Verdict
 // The search of signal s. Each call starts afresh, whatever the lent cells hold, and leaves in them what the visit kept.
 pub fn find(
     images: &[u8; 4096],
-    wanteds: &[u8; 576],
-    netlist: &[u8],
-    places: &[u16],
+    lookup: &[u8; 780],
+    rows: &[u16],
     known: &[u8],
     cells: &mut [u8],
-    inputs: usize,
     wanted: u8,
     s: usize,
 ) -> Found
-    requires { ⌜ SearchReady (now images) (now wanteds) (now netlist) (now places) (now known) inputs ⌝ }
+    requires { ⌜ SearchReady (now images) (now lookup) (now rows) (now known) ⌝ }
     requires { ⌜ (s < length (now known)) × (s < length (now cells)) ⌝ }
-    ensures found { λ r. ⌜ r ≡ foundOf (search (sourceFrom (now (netlist .entry)) (now (known .entry))) wanted s) ⌝ }
-    ensures cells { λ r. ⌜ now (cells .exit) ≡ cellsLeft (sourceFrom (now (netlist .entry)) (now (known .entry))) wanted s (now (cells .entry)) ⌝ }
+    ensures found { λ r. ⌜ r ≡ foundOf (search (sourceFrom (now (rows .entry)) (now (known .entry))) wanted s) ⌝ }
+    ensures cells { λ r. ⌜ now (cells .exit) ≡ cellsLeft (sourceFrom (now (rows .entry)) (now (known .entry))) wanted s (now (cells .entry)) ⌝ }
 {
     let class = known[s];
     if class < 8 {
@@ -431,28 +339,23 @@ pub fn find(
             pins: 0,
         };
     }
-    let meaning = meaning_of(kind_at(netlist, place_of(places, inputs, s)));
-    let from = unit_of(meaning.operation);
+    let mut tally: [u16; 2] = [0; 2];
     let reached = &mut cells[..s + 1];
     clear(reached);
     let ending = visit(
         images,
-        wanteds,
-        netlist,
-        places,
+        lookup,
+        rows,
         known,
         reached,
-        inputs,
+        &mut tally,
         s,
-        from,
-        0,
         wanted,
         NOBODY,
     );
-    let counts = count(reached);
     Found {
         verdict: verdict_of(ending),
-        gates: counts.gates,
-        pins: counts.pins,
+        gates: wide(tally[0]),
+        pins: wide(tally[1]),
     }
 }

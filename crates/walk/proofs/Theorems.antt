@@ -8,6 +8,7 @@ use mathlib.Core.List.{List, []}
 use lib.ListN.{length, drop, length-drop}
 use lib.Seq.{length-take-le}
 use denote.Ref.{RefT, now}
+use Rattle.netlist.specs.declared.Shape.{Shape}
 use Rattle.netlist.specs.declared.Checked.the-variants.{Accepted, Refused}
 use Rattle.netlist.specs.Netlist.{gatesOf, placeOf, checked}
 use Rattle.netlist.specs.Formed.{Formed}
@@ -44,12 +45,12 @@ module _ (w : Walk) where
           absurd (omega (arith, r .2, long, empty))
       go Nothing e = refl
 
-module _ (s : RefT (List ℕ)) {i g o p e : ℕ} (accepted : checked (now s) ≡ Accepted i g o p e) where
+module _ (s : RefT (List ℕ)) {shape : Shape} (accepted : checked (now s) ≡ Accepted shape) where
   -- the walk where it has reached gate k's record
   abbrev at-gate : ℕ → Walk
   at-gate k = record { netlist = s; number = k; place = placeOf (now s) k; count = gatesOf (now s) }
 
-  form : Formed (now s) i g o p e
+  form : Formed (now s) shape
   form = formed (now s) accepted
 
   at-record : (k : ℕ) → k < gatesOf (now s) → found (at-gate k) ≡ Whole (placeOf (now s) (suc k))

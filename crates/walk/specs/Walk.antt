@@ -61,7 +61,7 @@ stepped w = record {
 
 -- "Opening checks the netlist": the records of an accepted one, and none of a refused one
 unfoldable pub gatesIn : Checked → ℕ
-gatesIn (Accepted inputs gates outputs pins entries) = gates
+gatesIn (Accepted shape) = shape .gates
 gatesIn (Refused number place) = 0
 
 unfoldable pub opened : RefT (List ℕ) → Opened

@@ -91,13 +91,7 @@ fn gates_in(checked: Checked) -> usize
     ensures { λ r. ⌜ r ≡ gatesIn checked ⌝ }
 {
     match checked {
-        Checked::Accepted {
-            inputs: _,
-            gates,
-            outputs: _,
-            pins: _,
-            entries: _,
-        } => gates,
+        Checked::Accepted(shape) => shape.gates,
         Checked::Refused(_, _) => 0,
     }
 }

@@ -3,7 +3,7 @@
 //! simulation's.
 
 use crate::plain::{self, Refused, Sums};
-use crate::race::{self, race, Sample};
+use crate::race::{self, race, Group, Sample};
 use crate::versions;
 use reference::netlist;
 use std::fmt::Display;
@@ -63,7 +63,7 @@ impl Visits {
     fn print(&self, name: &str) {
         let percent = |part: usize, whole: usize| 100.0 * part as f64 / whole.max(1) as f64;
         println!(
-            "{name:>10}{:>10}{:>9.1}{:>9.1}{:>9.1}{:>9.1}{:>9.1}{:>9.1}",
+            "{name:>13}{:>10}{:>9.1}{:>9.1}{:>9.1}{:>9.1}{:>9.1}{:>9.1}",
             self.pairs,
             percent(self.hazards, self.pairs),
             percent(self.cone, self.gates),
@@ -75,16 +75,16 @@ impl Visits {
     }
 }
 
-pub fn print_visits(groups: &[(String, Vec<Sample>)]) {
+pub fn print_visits(groups: &[Group]) {
     println!(
         "Gates visited for an output, in percent of the card's gates and of the output's cone"
     );
     println!(
-        "{:>10}{:>10}{:>9}{:>9}{:>9}{:>9}{:>9}{:>9}",
-        "gates", "pairs", "hazard %", "cone %", "CORE %", "forw. %", "CORE/co.", "forw/co."
+        "{:>13}{:>10}{:>9}{:>9}{:>9}{:>9}{:>9}{:>9}",
+        "cards", "pairs", "hazard %", "cone %", "CORE %", "forw. %", "CORE/co.", "forw/co."
     );
-    for (name, samples) in groups {
-        Visits::of(samples).print(name);
+    for group in groups {
+        Visits::of(&group.samples).print(&group.name);
     }
     println!();
 }
@@ -92,10 +92,9 @@ pub fn print_visits(groups: &[(String, Vec<Sample>)]) {
 /// One line: with the check in every call, then checked once for all changes.
 /// What is compared takes turns with each other.
 fn times(samples: &[Sample]) -> Vec<f64> {
-    let calls = race::calls(samples);
     let mut line = Vec::new();
     let rows = [versions::full(), versions::core(), versions::forward()];
-    let [full, core, forward] = race(&calls, race::one, rows);
+    let [full, core, forward] = race(samples, race::one, rows);
     for version in 0..3 {
         line.push(core[version] / full[version]);
         line.push(forward[version] / full[version]);
@@ -105,8 +104,8 @@ fn times(samples: &[Sample]) -> Vec<f64> {
         versions::core_all(),
         versions::forward_all(),
     ];
-    let [full, core, forward] = race(&calls, race::changes, rows);
-    let outputs = race::total(&calls, race::searches) / race::total(&calls, race::changes);
+    let [full, core, forward] = race(samples, race::changes, rows);
+    let outputs = race::total(samples, race::searches) / race::total(samples, race::changes);
     for version in 0..3 {
         line.push(core[version] / outputs / full[version]);
         line.push(core[version] / full[version]);
@@ -116,7 +115,7 @@ fn times(samples: &[Sample]) -> Vec<f64> {
 }
 
 fn print_columns<T: Display>(name: &str, columns: &[T]) {
-    print!("{name:>10}");
+    print!("{name:>13}");
     for (number, column) in columns.iter().enumerate() {
         let width = if number < 6 { 8 } else { 7 };
         print!("{column:>width$}");
@@ -124,13 +123,13 @@ fn print_columns<T: Display>(name: &str, columns: &[T]) {
     println!();
 }
 
-pub fn print_times(groups: &[(String, Vec<Sample>)]) {
+pub fn print_times(groups: &[Group]) {
     println!(
         "Run time as a part of full simulation's, which gives all outputs: CORE for one output,"
     );
     println!("CORE for each of them (all), the forward method for all of them");
     println!(
-        "{:>10}{:^48}{:^63}",
+        "{:>13}{:^48}{:^63}",
         "", "check in every call", "card checked once for all changes"
     );
     let versions = ["library", "plain", "tuned"];
@@ -139,13 +138,13 @@ pub fn print_times(groups: &[(String, Vec<Sample>)]) {
     print_columns("", &[two, three].concat());
     let two = [["CORE", "forward"]; 3].concat();
     let three = [["CORE", "all", "forw."]; 3].concat();
-    print_columns("gates", &[two, three].concat());
-    for (name, samples) in groups {
-        let line: Vec<String> = times(samples)
+    print_columns("cards", &[two, three].concat());
+    for group in groups {
+        let line: Vec<String> = times(&group.samples)
             .iter()
             .map(|part| format!("{part:.2}"))
             .collect();
-        print_columns(name, &line);
+        print_columns(&group.name, &line);
     }
     println!();
 }

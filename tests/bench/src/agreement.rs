@@ -1,13 +1,16 @@
-//! Times mean something only if the answers are right: both Rust versions
-//! against the reference.
+//! Times mean something only if the answers are right: the three versions
+//! against the reference, with the stack that a caller of the library must
+//! have.
 
+use crate::cards::every_sort;
 use crate::plain::{self, Refused};
 use crate::{tuned, whole};
-use differential::{right, same_filling, Answer};
-use reference::netlist::Card;
+use differential::{found, right, same_filling, stack, Answer};
+use reference::netlist::{self, Card};
+use reference::program;
 use reference::random::{self, Random};
 
-/// A version's answers in the library's form.
+/// A version's answers in the library's form; of a list the sums alone.
 trait Version {
     fn netlist(&mut self, n: &[u8]) -> Answer;
     fn list(&mut self, n: &[u8], l: &[u8]) -> Answer;
@@ -17,7 +20,49 @@ trait Version {
     fn full_all(&mut self, n: &[u8], l: &[u8], buffer: &mut [u8]) -> Answer;
     fn forward_all(&mut self, n: &[u8], l: &[u8], buffer: &mut [u8]) -> Answer;
     fn core_all(&mut self, n: &[u8], l: &[u8], buffer: &mut [u8]) -> Answer;
-    fn text(&mut self, n: &[u8], l: &[u8]) -> Vec<u8>;
+}
+
+fn sums((number, values): Answer) -> Answer {
+    match number {
+        0 => (0, [values[2], values[3], 0, 0, 0]),
+        _ => (number, values),
+    }
+}
+
+struct Library;
+
+impl Version for Library {
+    fn netlist(&mut self, n: &[u8]) -> Answer {
+        found::netlist(n)
+    }
+
+    fn list(&mut self, n: &[u8], l: &[u8]) -> Answer {
+        found::list(n, l)
+    }
+
+    fn full(&mut self, n: &[u8], l: &[u8], change: usize, buffer: &mut [u8]) -> Answer {
+        found::full(n, l, change, buffer)
+    }
+
+    fn forward(&mut self, n: &[u8], l: &[u8], change: usize, buffer: &mut [u8]) -> Answer {
+        found::forward(n, l, change, buffer)
+    }
+
+    fn core(&mut self, n: &[u8], l: &[u8], change: usize, output: usize) -> Answer {
+        found::core(n, l, change, output)
+    }
+
+    fn full_all(&mut self, n: &[u8], l: &[u8], buffer: &mut [u8]) -> Answer {
+        sums(found::full_all(n, l, buffer))
+    }
+
+    fn forward_all(&mut self, n: &[u8], l: &[u8], buffer: &mut [u8]) -> Answer {
+        sums(found::forward_all(n, l, buffer))
+    }
+
+    fn core_all(&mut self, n: &[u8], l: &[u8], buffer: &mut [u8]) -> Answer {
+        sums(found::core_all(n, l, buffer))
+    }
 }
 
 fn answer<const N: usize>(found: Result<[usize; N], Refused>) -> Answer {
@@ -73,10 +118,6 @@ impl Version for Plain {
     fn core_all(&mut self, n: &[u8], l: &[u8], buffer: &mut [u8]) -> Answer {
         answer(plain::core_all(n, l, buffer).map(<[usize; 2]>::from))
     }
-
-    fn text(&mut self, n: &[u8], l: &[u8]) -> Vec<u8> {
-        whole::plain_text(n, l).unwrap()
-    }
 }
 
 struct Tuned(tuned::Index);
@@ -118,10 +159,6 @@ impl Version for Tuned {
     fn core_all(&mut self, n: &[u8], l: &[u8], buffer: &mut [u8]) -> Answer {
         answer(tuned::core_all(n, l, buffer, &mut self.0).map(<[usize; 2]>::from))
     }
-
-    fn text(&mut self, n: &[u8], l: &[u8]) -> Vec<u8> {
-        whole::tuned_text(n, l).unwrap()
-    }
 }
 
 fn one_change(version: &mut impl Version, n: &[u8], l: &[u8], change: usize) {
@@ -142,14 +179,6 @@ fn one_change(version: &mut impl Version, n: &[u8], l: &[u8], change: usize) {
     for output in [0, 1, 5, 63, 64] {
         let found = version.core(n, l, change, output);
         assert_eq!(found, right::core(n, l, change, output));
-    }
-}
-
-/// A list's sums alone, which is what a version gives.
-fn sums((number, values): Answer) -> Answer {
-    match number {
-        0 => (0, [values[2], values[3], 0, 0, 0]),
-        _ => (number, values),
     }
 }
 
@@ -179,10 +208,17 @@ fn every_change<V: Version>(version: &mut V, card: &Card, n: &[u8], l: &[u8], sp
 /// Changes of each list.
 const COUNT: usize = 2;
 
-fn agrees(mut version: impl Version) {
+/// A card, and its two files as they are given.
+struct Made {
+    card: Card,
+    netlist: Vec<u8>,
+    list: Vec<u8>,
+}
+
+/// Small cards and some large ones, a third of them damaged.
+fn random_cards() -> Vec<Made> {
     let mut random = Random::new(71);
-    let mut accepted = 0;
-    for round in 0..3000 {
+    let made = |round| {
         let card = match round % 20 {
             0 => random::any_card(&mut random),
             _ => random::small_card(&mut random),
@@ -193,28 +229,76 @@ fn agrees(mut version: impl Version) {
             1 => random::damage_list(&mut random, card.inputs, &mut list),
             _ => {}
         }
-        assert_eq!(version.netlist(&netlist), right::netlist(&netlist));
-        let right = right::list(&netlist, &list);
-        assert_eq!(version.list(&netlist, &list), right);
-        accepted += usize::from(right.0 == 0);
-        for change in 0..=COUNT {
-            one_change(&mut version, &netlist, &list, change);
+        Made {
+            card,
+            netlist,
+            list,
         }
-        every_change(&mut version, &card, &netlist, &list, random.below(5));
-        assert_eq!(
-            version.text(&netlist, &list),
-            reference::program::printed(&netlist, &list)
-        );
-    }
+    };
+    (0..3000).map(made).collect()
+}
+
+/// Some of the cards that are timed, with the first changes of their lists.
+fn timed_cards() -> Vec<Made> {
+    let files = every_sort().flat_map(|sort| sort.files(12, COUNT));
+    files
+        .map(|(netlist, list)| Made {
+            card: netlist::decode(&netlist).expect("an accepted card"),
+            netlist,
+            list,
+        })
+        .collect()
+}
+
+fn cards() -> Vec<Made> {
+    let cards = random_cards();
+    let accepted = |made: &&Made| right::list(&made.netlist, &made.list).0 == 0;
+    let accepted = cards.iter().filter(accepted).count();
     assert!((1500..2500).contains(&accepted), "{accepted} accepted");
+    cards.into_iter().chain(timed_cards()).collect()
+}
+
+/// Every call on every card.
+fn agrees(mut version: impl Version) {
+    let mut random = Random::new(72);
+    for Made {
+        card,
+        netlist,
+        list,
+    } in &cards()
+    {
+        assert_eq!(version.netlist(netlist), right::netlist(netlist));
+        assert_eq!(version.list(netlist, list), right::list(netlist, list));
+        for change in 0..=COUNT {
+            one_change(&mut version, netlist, list, change);
+        }
+        every_change(&mut version, card, netlist, list, random.below(5));
+    }
+}
+
+#[test]
+fn library_agrees_with_the_reference() {
+    stack::within(|| agrees(Library));
 }
 
 #[test]
 fn plain_agrees_with_the_reference() {
-    agrees(Plain);
+    stack::within(|| agrees(Plain));
 }
 
 #[test]
 fn tuned_agrees_with_the_reference() {
-    agrees(Tuned(tuned::new_index()));
+    stack::within(|| agrees(Tuned(tuned::new_index())));
+}
+
+#[test]
+fn programs_print_what_the_reference_prints() {
+    stack::within(|| {
+        for Made { netlist, list, .. } in &cards() {
+            let right = program::printed(netlist, list);
+            for text in [whole::plain_text, whole::tuned_text] {
+                assert!(text(netlist, list).unwrap() == right);
+            }
+        }
+    });
 }

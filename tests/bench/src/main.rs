@@ -1,14 +1,21 @@
 //! Times the library's calls against plain and against tuned safe Rust, on
-//! cards of 16 to 2,048 gates, so that growth shows.
+//! wide cards of 16, 256 and 2,048 gates, so that growth shows, and on deep
+//! and two-pin ones of 2,048.
 //!
-//! `cargo run --release --offline`; words after `--` are other numbers of
-//! gates. The program's row shows the Rust times alone where target/bin/lane
-//! is missing. The ratio to watch is that to plain Rust: above 1 the library
-//! is slower.
+//! `cargo run --release --offline`; words after `--` choose, in any order:
+//! numbers of gates, shapes (`wide`, `deep`, `two-pin`), and calls as
+//! `include/lane.h` names them, without `lane_`: `2048 deep core`. A number
+//! without a shape is of wide cards; where calls are named, their rows are all
+//! that is printed.
+//!
+//! The program's rows show the Rust times alone where target/bin/lane is
+//! missing. The ratio to watch is that to plain Rust: above 1 the library is
+//! slower.
 
 mod against_full;
 #[cfg(test)]
 mod agreement;
+mod cards;
 mod plain;
 mod race;
 mod tables;
@@ -16,94 +23,146 @@ mod tuned;
 mod versions;
 mod whole;
 
-use race::{race, Sample, Units, Versions, CARDS, CHANGES, TURNS};
+use cards::{Shape, Sort, SHAPES};
+use race::{race, Group, Sample, Units, Versions, CARDS, CHANGES, TURNS};
 use std::path::Path;
 use std::process::ExitCode;
 
-/// Gates of the cards, unless others are asked for.
-const SIZES: [usize; 8] = [16, 32, 64, 128, 256, 512, 1024, 2048];
+/// The cards that are timed, unless others are asked for.
+const SORTS: [Sort; 5] = [
+    Sort::new(16, Shape::Wide),
+    Sort::new(256, Shape::Wide),
+    Sort::new(2048, Shape::Wide),
+    Sort::new(2048, Shape::Deep),
+    Sort::new(2048, Shape::TwoPin),
+];
 
-/// A row's name, the unit whose time it tells, and what it calls.
+/// A call, the unit whose time its row tells, and its versions.
 type Row = (&'static str, Units, fn() -> Versions);
 
 const ROWS: [Row; 8] = [
-    ("check netlist", race::one, versions::check_netlist),
-    ("check netlist + list", race::one, versions::check_list),
+    ("netlist", race::one, versions::check_netlist),
+    ("list", race::one, versions::check_list),
     ("full", race::one, versions::full),
-    ("CORE", race::one, versions::core),
+    ("core", race::one, versions::core),
     ("forward", race::one, versions::forward),
-    ("full, checked once", race::changes, versions::full_all),
-    ("CORE, checked once", race::searches, versions::core_all),
-    (
-        "forward, checked once",
-        race::changes,
-        versions::forward_all,
-    ),
+    ("full_all", race::changes, versions::full_all),
+    ("core_all", race::searches, versions::core_all),
+    ("forward_all", race::changes, versions::forward_all),
 ];
 
-fn print_row(gates: usize, name: &str, [library, plain, tuned]: [f64; 3]) {
+fn print_row(call: &str, group: &Group, [library, plain, tuned]: [f64; 3]) {
     println!(
-        "{gates:>5}  {name:<22}{library:>11.0}{plain:>10.0}{:>7.2}{tuned:>10.0}{:>7.2}{:>9.2}",
+        "{:>13}  {call:<12}{library:>11.0}{plain:>10.0}{:>7.2}{tuned:>10.0}{:>7.2}{:>9.2}",
+        group.name,
         library / plain,
         library / tuned,
-        library / gates as f64,
+        library / group.samples[0].card.gates as f64,
     );
 }
 
-fn print_calls(groups: &[(String, Vec<Sample>)]) {
-    let (least, most) = (TURNS.start(), TURNS.end());
-    println!("{CARDS} cards in rotation, {CHANGES} changes each, best of {least} to {most} turns");
-    println!("Nanoseconds for a call. \"Checked once\" is one call for all changes of a list:");
-    println!("nanoseconds for a change, CORE's for a change and an output");
+fn print_calls(rows: &[Row], groups: &[Group]) {
     println!(
-        "{:>5}  {:<22}{:>11}{:>10}{:>7}{:>10}{:>7}{:>9}",
-        "gates", "call", "library ns", "plain ns", "ratio", "tuned ns", "ratio", "ns/gate"
+        "{} to {} cards in rotation, {CHANGES} changes each, best of {} to {} turns",
+        CARDS.start(),
+        CARDS.end(),
+        TURNS.start(),
+        TURNS.end()
     );
-    for (name, units, versions) in ROWS {
-        for (_, samples) in groups {
-            let [times] = race(&race::calls(samples), units, [versions()]);
-            print_row(samples[0].card.gates, name, times);
+    println!("Nanoseconds for a call. An \"_all\" call is one for all changes of a list:");
+    println!("nanoseconds for a change, core_all's for a change and an output");
+    println!(
+        "{:>13}  {:<12}{:>11}{:>10}{:>7}{:>10}{:>7}{:>9}",
+        "cards", "call", "library ns", "plain ns", "ratio", "tuned ns", "ratio", "ns/gate"
+    );
+    for (call, units, versions) in rows {
+        for group in groups {
+            let [times] = race(&group.samples, *units, [versions()]);
+            print_row(call, group, times);
         }
     }
     println!();
 }
 
 /// A bundled card as a group of its own.
-fn bundled(name: &str) -> Option<(String, Vec<Sample>)> {
+fn bundled(name: &str) -> Option<Group> {
     let folder = Path::new(env!("CARGO_MANIFEST_DIR"))
         .join("../../examples")
         .join(name);
     let netlist = std::fs::read(folder.join("lane.lcn")).ok()?;
     let list = std::fs::read(folder.join("lane.lct")).ok()?;
-    Some((name.to_string(), vec![Sample::new(netlist, list)]))
+    Some(Group {
+        name: name.to_string(),
+        samples: vec![Sample::new((netlist, list))],
+    })
 }
 
-fn print_all(sizes: &[usize]) -> std::io::Result<()> {
-    let group = |gates: &usize| (gates.to_string(), race::samples(*gates));
-    let mut groups: Vec<(String, Vec<Sample>)> = sizes.iter().map(group).collect();
-    print_calls(&groups);
-    groups.extend(bundled("two_lanes"));
-    groups.extend(bundled("five_lanes"));
-    against_full::print_visits(&groups);
-    against_full::print_times(&groups);
-    whole::print_table(sizes)
+/// What the words ask for; an empty list leaves it open.
+struct Asked {
+    sizes: Vec<usize>,
+    shapes: Vec<Shape>,
+    rows: Vec<Row>,
 }
 
-fn sizes(words: &[String]) -> Option<Vec<usize>> {
-    if words.is_empty() {
-        return Some(SIZES.to_vec());
+impl Asked {
+    /// None where a word is not understood.
+    fn by(words: &[String]) -> Option<Asked> {
+        let size = |word: &String| word.parse().ok().filter(|size| (1..=2048).contains(size));
+        let shape = |word: &String| SHAPES.into_iter().find(|shape| shape.name() == word);
+        let row = |word: &String| ROWS.into_iter().find(|(call, ..)| call == word);
+        let asked = Asked {
+            sizes: words.iter().filter_map(size).collect(),
+            shapes: words.iter().filter_map(shape).collect(),
+            rows: words.iter().filter_map(row).collect(),
+        };
+        let understood = asked.sizes.len() + asked.shapes.len() + asked.rows.len();
+        (understood == words.len()).then_some(asked)
     }
-    let size = |word: &String| word.parse().ok().filter(|size| (1..=2048).contains(size));
-    words.iter().map(size).collect()
+
+    /// Each size in each shape; without a size, those of [`SORTS`].
+    fn sorts(&self) -> Vec<Sort> {
+        let is_asked = |sort: &Sort| self.shapes.is_empty() || self.shapes.contains(&sort.shape);
+        if self.sizes.is_empty() {
+            return SORTS.into_iter().filter(is_asked).collect();
+        }
+        let shapes = match self.shapes.is_empty() {
+            true => &[Shape::Wide],
+            false => &self.shapes[..],
+        };
+        let each = |gates| shapes.iter().map(move |shape| Sort::new(gates, *shape));
+        self.sizes.iter().copied().flat_map(each).collect()
+    }
+
+    fn print(&self) -> std::io::Result<()> {
+        let sorts = self.sorts();
+        let mut groups: Vec<Group> = sorts.iter().copied().map(Group::of).collect();
+        if !self.rows.is_empty() {
+            print_calls(&self.rows, &groups);
+            return Ok(());
+        }
+        print_calls(&ROWS, &groups);
+        groups.extend(bundled("two_lanes"));
+        groups.extend(bundled("five_lanes"));
+        against_full::print_visits(&groups);
+        against_full::print_times(&groups);
+        whole::print_table(&sorts)
+    }
+}
+
+fn print_usage() {
+    let shapes = SHAPES.map(Shape::name).join(" ");
+    let calls = ROWS.map(|(call, ..)| call).join(" ");
+    eprintln!("bench [WORD..], each a number of gates from 1 to 2048, one of the shapes");
+    eprintln!("{shapes}, or one of the calls {calls}");
 }
 
 fn main() -> ExitCode {
     let words: Vec<String> = std::env::args().skip(1).collect();
-    let done = match (whole::run_as_program(&words), sizes(&words)) {
+    let done = match (whole::run_as_program(&words), Asked::by(&words)) {
         (Some(done), _) => done,
-        (None, Some(sizes)) => print_all(&sizes),
+        (None, Some(asked)) => asked.print(),
         (None, None) => {
-            eprintln!("bench [GATES..], each from 1 to 2048");
+            print_usage();
             return ExitCode::FAILURE;
         }
     };

@@ -2,16 +2,22 @@
 //! the same run and in turns, since on a shared machine times of different
 //! minutes cannot be compared.
 
+use crate::cards::{Files, Sort};
 use crate::plain;
-use reference::random::{self, Random, SHAPES};
+use reference::random::Random;
 use std::ops::RangeInclusive;
 use std::time::{Duration, Instant};
 
-/// Cards in rotation: with one card repeated the branch predictor learns it.
-pub const CARDS: usize = 60;
+/// Cards in rotation, as many as have so many gates together: of few cards
+/// repeated the branch predictor learns much, also of twelve of 2,048 gates.
+pub const CARDS: RangeInclusive<usize> = 30..=60;
+const GATES: usize = 30 * 2048;
 
 /// Changes of each card's list.
 pub const CHANGES: usize = 16;
+
+/// Calls of a turn, at most.
+const CALLS: usize = 3840;
 
 /// Turns of each version, as many as its share of a race has time for.
 pub const TURNS: RangeInclusive<usize> = 9..=41;
@@ -30,7 +36,7 @@ pub struct Sample {
 }
 
 impl Sample {
-    pub fn new(netlist: Vec<u8>, list: Vec<u8>) -> Sample {
+    pub fn new((netlist, list): Files) -> Sample {
         let (card, changes) = plain::check_list(&netlist, &list).expect("a card to accept");
         Sample {
             netlist,
@@ -41,18 +47,21 @@ impl Sample {
     }
 }
 
-pub fn samples(gates: usize) -> Vec<Sample> {
-    let mut random = Random::new(gates as u64);
-    (0..CARDS)
-        .map(|number| {
-            let shape = SHAPES[number % SHAPES.len()];
-            let inputs = random.from_to(8, (gates / 4).clamp(9, 256));
-            let outputs = random.from_to(1, (gates / 8).clamp(2, 64));
-            let card = random::card(&mut random, shape, inputs, gates, outputs);
-            let (netlist, list) = random::files(&mut random, &card, CHANGES);
-            Sample::new(netlist, list)
-        })
-        .collect()
+/// The cards of a row.
+pub struct Group {
+    pub name: String,
+    pub samples: Vec<Sample>,
+}
+
+impl Group {
+    pub fn of(sort: Sort) -> Group {
+        let cards = (GATES / sort.gates).clamp(*CARDS.start(), *CARDS.end());
+        let files = sort.files(cards, CHANGES);
+        Group {
+            name: sort.name(),
+            samples: files.into_iter().map(Sample::new).collect(),
+        }
+    }
 }
 
 /// One call: a card, and for a single one the change and the output.
@@ -62,46 +71,42 @@ pub struct Call<'a> {
     pub list: &'a [u8],
     pub change: usize,
     pub output: usize,
-    changes: usize,
-    outputs: usize,
 }
 
-/// Calls in an order that no predictor learns.
-pub fn calls(samples: &[Sample]) -> Vec<Call<'_>> {
+/// Calls in an order that no predictor learns, as many for each card.
+fn calls(samples: &[Sample]) -> Vec<Call<'_>> {
     let mut random = Random::new(99);
-    (0..64 * CARDS)
-        .map(|number| {
-            let sample = &samples[number % samples.len()];
-            Call {
-                netlist: &sample.netlist,
-                list: &sample.list,
-                change: random.below(sample.changes),
-                output: random.below(sample.card.outputs),
-                changes: sample.changes,
-                outputs: sample.card.outputs,
-            }
+    let count = CALLS / samples.len() * samples.len();
+    let rotation = samples.iter().cycle().take(count);
+    rotation
+        .map(|sample| Call {
+            netlist: &sample.netlist,
+            list: &sample.list,
+            change: random.below(sample.changes),
+            output: random.below(sample.card.outputs),
         })
         .collect()
 }
 
-/// How many units a call does, of which the time for one is told.
-pub type Units = fn(&Call) -> usize;
+/// How many units a call does on a card, of which the time for one is told.
+pub type Units = fn(&Sample) -> usize;
 
-pub fn one(_: &Call) -> usize {
+pub fn one(_: &Sample) -> usize {
     1
 }
 
-pub fn changes(call: &Call) -> usize {
-    call.changes
+pub fn changes(sample: &Sample) -> usize {
+    sample.changes
 }
 
 /// Searches of one output in one change.
-pub fn searches(call: &Call) -> usize {
-    call.changes * call.outputs
+pub fn searches(sample: &Sample) -> usize {
+    sample.changes * sample.card.outputs
 }
 
-pub fn total(calls: &[Call], units: Units) -> f64 {
-    calls.iter().map(units).sum::<usize>() as f64
+/// Units of a round: a call on each card.
+pub fn total(samples: &[Sample], units: Units) -> f64 {
+    samples.iter().map(units).sum::<usize>() as f64
 }
 
 /// One version of a call.
@@ -119,8 +124,8 @@ fn time(calls: &[Call], work: &mut Work) -> f64 {
     start.elapsed().as_nanos() as f64
 }
 
-/// The calls of a turn, in pieces: as many as fill a piece, but at least one
-/// for every card, and for none more than for another.
+/// The calls of a turn, in pieces: as many as fill a piece in the slowest row,
+/// but whole rounds of all cards, and at least one.
 struct Turn<'a> {
     calls: &'a [Call<'a>],
     piece: usize,
@@ -128,10 +133,12 @@ struct Turn<'a> {
 }
 
 impl<'a> Turn<'a> {
-    fn new(calls: &'a [Call<'a>], work: &mut Work) -> Turn<'a> {
-        let each = time(&calls[..CARDS], work) / CARDS as f64;
+    fn new(calls: &'a [Call<'a>], cards: usize, rows: &mut [Versions]) -> Turn<'a> {
+        let some = &calls[..*CARDS.start()];
+        let times = rows.iter_mut().map(|[library, ..]| time(some, library));
+        let each = times.fold(0.0, f64::max) / some.len() as f64;
         let piece = (PIECE.as_nanos() as f64 / each) as usize;
-        let count = (piece / CARDS * CARDS).clamp(CARDS, calls.len());
+        let count = (piece / cards * cards).clamp(cards, calls.len());
         let times = SHARE.as_nanos() as f64 / (each * count as f64);
         Turn {
             calls: &calls[..count],
@@ -147,11 +154,12 @@ impl<'a> Turn<'a> {
 
 /// Nanoseconds for a unit of each version, from the best times of the pieces.
 pub fn race<const ROWS: usize>(
-    calls: &[Call],
+    samples: &[Sample],
     units: Units,
     mut rows: [Versions; ROWS],
 ) -> [[f64; 3]; ROWS] {
-    let turn = Turn::new(calls, &mut rows[0][0]);
+    let calls = calls(samples);
+    let turn = Turn::new(&calls, samples.len(), &mut rows);
     let best = vec![f64::MAX; turn.pieces().len()];
     let mut runs = rows.map(|versions| versions.map(|work| (work, best.clone())));
     for _ in 0..turn.times {
@@ -161,6 +169,7 @@ pub fn race<const ROWS: usize>(
             }
         }
     }
-    let units = total(turn.calls, units);
+    let rounds = turn.calls.len() / samples.len();
+    let units = total(samples, units) * rounds as f64;
     runs.map(|versions| versions.map(|(_, best)| best.iter().sum::<f64>() / units))
 }

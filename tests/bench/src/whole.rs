@@ -2,8 +2,8 @@
 //! the same, each started anew in a folder with a card. The Rust ones are this
 //! binary, started with a word that says which.
 
+use crate::cards::Sort;
 use crate::{plain, tuned};
-use reference::random::{self, Random, SHAPES};
 use std::fs;
 use std::io::{self, Write};
 use std::path::{Path, PathBuf};
@@ -11,6 +11,9 @@ use std::process::{Command, Stdio};
 use std::time::Instant;
 
 const NAMES: [&str; 8] = ["0", "1", "R", "F", "S0", "S1", "D+", "D-"];
+
+/// Cards of a row.
+const CARDS: usize = 6;
 
 /// Changes of a list: few enough for a run of a second.
 const CHANGES: usize = 200;
@@ -160,28 +163,21 @@ fn best_starts(programs: &mut [Command], folder: &Path) -> Vec<f64> {
     best
 }
 
-/// One card of each shape in a folder of its own.
-fn folders(under: &Path, gates: usize) -> io::Result<Vec<PathBuf>> {
-    let mut random = Random::new(gates as u64);
+/// Each card in a folder of its own.
+fn folders(under: &Path, sort: Sort) -> io::Result<Vec<PathBuf>> {
     let mut folders = Vec::new();
-    for (number, shape) in SHAPES.into_iter().enumerate() {
-        let (inputs, outputs) = ((gates / 4).clamp(9, 256), (gates / 8).clamp(2, 64));
-        let card = random::card(&mut random, shape, inputs, gates, outputs);
-        let (netlist, list) = random::files(&mut random, &card, CHANGES);
-        assert!(
-            plain::check_list(&netlist, &list).is_ok(),
-            "an accepted card"
-        );
-        let folder = under.join(format!("{gates}-{number}"));
+    for (number, (netlist, list)) in sort.files(CARDS, CHANGES).iter().enumerate() {
+        assert!(plain::check_list(netlist, list).is_ok(), "an accepted card");
+        let folder = under.join(format!("{}-{number}", sort.name()));
         fs::create_dir_all(&folder)?;
-        fs::write(folder.join("lane.lcn"), &netlist)?;
-        fs::write(folder.join("lane.lct"), &list)?;
+        fs::write(folder.join("lane.lcn"), netlist)?;
+        fs::write(folder.join("lane.lct"), list)?;
         folders.push(folder);
     }
     Ok(folders)
 }
 
-fn print_row(gates: usize, folders: &[PathBuf], own: &Path) {
+fn print_row(name: &str, folders: &[PathBuf], own: &Path) {
     let rust = ["plain-program", "tuned-program"].map(|word| {
         let mut command = Command::new(own);
         command.arg(word);
@@ -199,28 +195,28 @@ fn print_row(gates: usize, folders: &[PathBuf], own: &Path) {
     let (plain, tuned) = (sums[0], sums[1]);
     match sums.get(2) {
         Some(lane) => println!(
-            "{gates:>10}{lane:>12.2}{plain:>12.2}{:>8.2}{tuned:>12.2}{:>8.2}",
+            "{name:>13}{lane:>12.2}{plain:>12.2}{:>8.2}{tuned:>12.2}{:>8.2}",
             lane / plain,
             lane / tuned
         ),
         None => println!(
-            "{gates:>10}{:>12}{plain:>12.2}{:>8}{tuned:>12.2}{:>8}",
+            "{name:>13}{:>12}{plain:>12.2}{:>8}{tuned:>12.2}{:>8}",
             "-", "-", "-"
         ),
     }
 }
 
-pub fn print_table(sizes: &[usize]) -> io::Result<()> {
+pub fn print_table(sorts: &[Sort]) -> io::Result<()> {
     let own = std::env::current_exe()?;
     let under = std::env::temp_dir().join(format!("bench-{}", std::process::id()));
-    println!("Whole program on six cards, {CHANGES} changes each, the milliseconds of best starts added up");
+    println!("Whole program on {CARDS} cards, {CHANGES} changes each, the milliseconds of best starts added up");
     println!(
-        "{:>10}{:>12}{:>12}{:>8}{:>12}{:>8}",
-        "gates", "lane ms", "plain ms", "ratio", "tuned ms", "ratio"
+        "{:>13}{:>12}{:>12}{:>8}{:>12}{:>8}",
+        "cards", "lane ms", "plain ms", "ratio", "tuned ms", "ratio"
     );
-    for gates in sizes {
-        let folders = folders(&under, *gates)?;
-        print_row(*gates, &folders, &own);
+    for sort in sorts {
+        let folders = folders(&under, *sort)?;
+        print_row(&sort.name(), &folders, &own);
     }
     fs::remove_dir_all(&under)
 }

@@ -1,155 +1,225 @@
--- `batch::core_rows` meets its contract. The loop's invariant: the rows of the changes so far are written, the counts are summed, and the room is as it was
--- lent. Assumes nothing.
-use Prim.Native.Nat.{_+_, _-_, _*_, _≤_}
+-- `batch::core_rows` meets its contract. The loop's invariant: the rows of the changes so far are written, the counts are summed, and past the inputs
+-- nothing is known. Assumes nothing.
+use Prim.Native.Nat.{ℕ, _+_, _-_, _*_, _≤_}
 use native.Mathlib.Omega.{arith}
-use mathlib.Core.Path.{_≡_, refl, _∙_}
-use lib.ListN.{length}
+use mathlib.Core.Path.{_≡_, refl, sym, _∙_, ap}
+use mathlib.Core.List.{List}
+use lib.ListN.{length, take}
+use Rattle.netlist.specs.Netlist.{inputsOf, gatesOf}
+use Rattle.changes.specs.Changes.{widthOf, inputClassAt}
+use Rattle.changes.specs.Lent.{Accepts, signalsOf}
+use Rattle.changes.specs.declared.Task.{Task}
 use Rattle.changes.proofs.Accepted.{listed}
-use Rattle.forward.proofs.Answers.{places-fit}
+use Rattle.visit.specs.Lent.{inputsKnown}
+use Rattle.core.proofs.Entry.{known-is, known-all}
 use Rattle.batch.specs.declared.Judged.the-variants.{Done}
 use Rattle.batch.specs.Batch.{coreSum, coreOf}
-use Rattle.batch.specs.Lent.{Room, rowed}
-use Rattle.batch.proofs.Rows.{lent-room, rowed-none, rowed-kept, rowed-room, rowed-next}
-use Rattle.batch.proofs.Changes.{Counted, counted-none, counted-next, card, core-regular, searched-high}
+use Rattle.batch.specs.Lent.{CellRoom, rowed}
+use Rattle.batch.proofs.Rows.{Regular, lent-room, rowed-none, rowed-kept, rowed-room, rowed-next}
+use Rattle.batch.proofs.Changes.{Counted, counted-none, counted-next, card, core-regular, searched-high, room-next, searchable, sums-are, bytes-are}
 use borrow.Author.Needs.{needs}
 use Rattle.batch.proofs.core_rows.Statement.{statement}
 use Rattle.batch.proofs.core_rows.Tie as tie
 
 abbrev Inv-loop : tie.InvT-loop
-Inv-loop netlist list inputs gates outputs entries width changes buffer₀ images wanteds places known₀ cells₀ visited₀ taken₀ change₀ buffer known cells visited taken change =
-    (change ≤ changes) × (buffer ≡ rowed (coreOf netlist list) change buffer₀) × Counted (coreSum (λ a. a .gates) netlist list) change visited
-    × Counted (coreSum (λ a. a .pins) netlist list) change taken × Room known cells inputs
+Inv-loop netlist list task rows known₀ cells₀ buffer₀ images lookup shape signals outputs visited₀ taken₀ change₀ change-end known cells buffer visited taken change =
+    (change ≤ change-end) × (buffer ≡ rowed (coreOf netlist list) change buffer₀) × Counted (coreSum (λ a. a .gates) netlist list) change visited
+    × Counted (coreSum (λ a. a .pins) netlist list) change taken × CellRoom known cells (task .shape) × (length known ≡ length known₀) × (length cells ≡ length cells₀)
 
 abbrev μ-loop : tie.MeasureT-loop
-μ-loop netlist list inputs gates outputs entries width changes buffer₀ images wanteds places known₀ cells₀ visited₀ taken₀ change₀ buffer known cells visited taken change =
-    changes - change
+μ-loop netlist list task rows known₀ cells₀ buffer₀ images lookup shape signals outputs visited₀ taken₀ change₀ change-end known cells buffer visited taken change =
+    change-end - change
+
+-- what is lent
+module _ (c : tie.Start Inv-loop μ-loop) where
+  abbrev netlist : List ℕ
+  netlist = c .args .netlist .now
+
+  abbrev list : List ℕ
+  list = c .args .list .now
+
+  abbrev rows : List ℕ
+  rows = c .args .rows .now
+
+  abbrev task : Task
+  task = c .args .task
+
+  abbrev signals : ℕ
+  signals = signalsOf (task .shape)
+
+  abbrev outputs : ℕ
+  outputs = task .shape .outputs
+
+  given : Accepts netlist list rows task
+  given = c .pre .0 .of
+
+  regular : Regular (coreOf netlist list) outputs
+  regular = core-regular netlist list (given .accepted)
+
+-- the rows so far leave the buffer its length
+module _ (c : tie.At-loop Inv-loop μ-loop) where
+  abbrev begun : tie.Start Inv-loop μ-loop
+  begun = c .before .before .before .before .before .before .before .before .before .before .before
+
+  kept : length (c .loop .buffer) ≡ length (begun .args .buffer .now)
+  kept = rowed-kept (regular begun) (task begun .changes) (c .loop .change) _ _ (begun .pre .0 .enough) (c .loop .inv .1) (c .loop .inv .0)
+
+-- room for the next row
+room : (c : tie.In-loop Inv-loop μ-loop) → let o = outputs (begun (c .before)) in c .before .loop .change * o + o ≤ length (c .before .loop .buffer)
+room c =
+    let s = begun (c .before) in
+    rowed-room (regular s) (task s .changes) (c .before .loop .change) _ _ (s .pre .0 .enough) (c .before .loop .inv .1) (c .loop-test .taken)
+
+-- what is lent as known
+module _ (c : tie.After-fill-inputs Inv-loop μ-loop) where
+  abbrev inside : tie.In-loop Inv-loop μ-loop
+  inside = c .before .before
+
+  abbrev at : tie.At-loop Inv-loop μ-loop
+  at = inside .before
+
+  abbrev b : tie.Start Inv-loop μ-loop
+  b = begun at
+
+  abbrev lent : List ℕ
+  lent = take (signals b) (c .fill-inputs .last .1 .1 .1 .0)
+
+  known : lent ≡ inputsKnown (inputsOf (netlist b)) (gatesOf (netlist b)) (inputClassAt (list b) (widthOf (inputsOf (netlist b))) (at .loop .change))
+  known =
+      known-is (netlist b) (list b) (rows b) (task b) (given b) (at .loop .change) _ _ (at .loop .inv .4 .none-known) (at .loop .inv .4 .told) (c .fill-inputs .ensures)
+
+  lent-all : length lent ≡ signals b
+  lent-all = ap length known ∙ known-all (netlist b) (list b) (rows b) (task b) (given b) (at .loop .change)
+
+-- the counts with this change's
+module _ (c : tie.After-search-outputs Inv-loop μ-loop) where
+  abbrev filling : tie.After-fill-inputs Inv-loop μ-loop
+  filling = c .before .before .before .before .before .before .before .before
+
+  abbrev l : tie.At-loop Inv-loop μ-loop
+  l = at filling
+
+  abbrev s : tie.Start Inv-loop μ-loop
+  s = begun l
+
+  visited : Counted (coreSum (λ a. a .gates) (netlist s) (list s)) (l .loop .change + 1) (l .loop .visited + c .search-outputs .result .gates)
+  visited =
+      counted-next (l .loop .inv .2) _
+      (c .search-outputs .ensures .0 ∙ sums-are (netlist s) (list s) (rows s) (task s) (given s) (l .loop .change) _ (known filling) (λ a. a .gates))
+      (searched-high (netlist s) (list s) (given s .accepted) (l .loop .change) .0)
+
+  taken : Counted (coreSum (λ a. a .pins) (netlist s) (list s)) (l .loop .change + 1) (l .loop .taken + c .search-outputs .result .pins)
+  taken =
+      counted-next (l .loop .inv .3) _
+      (c .search-outputs .ensures .1 .0 ∙ sums-are (netlist s) (list s) (rows s) (task s) (given s) (l .loop .change) _ (known filling) (λ a. a .pins))
+      (searched-high (netlist s) (list s) (given s .accepted) (l .loop .change) .1)
+
+  changes-few : task s .changes ≤ 1000
+  changes-few = listed (netlist s) (list s) (given s .accepted) .changes-high
 
 images-requires : tie.Need-images-requires Inv-loop μ-loop
 images-requires c κs = search needs
 
-wanted-table-requires : tie.Need-wanted-table-requires Inv-loop μ-loop
-wanted-table-requires c κs = search needs
+lookup-requires : tie.Need-lookup-requires Inv-loop μ-loop
+lookup-requires c κs = search needs
 
-slice-aggregate-fill-places : tie.Need-slice-aggregate-fill-places Inv-loop μ-loop
-slice-aggregate-fill-places c = search needs
-
-fill-places-requires : tie.Need-fill-places-requires Inv-loop μ-loop
-fill-places-requires c κs = places-fit _ (card _ _ (c .before .before .before .before .before .before .pre .accepted))
+add-signals : tie.Need-add-signals Inv-loop μ-loop
+add-signals c =
+    let f = card _ _ (c .before .before .before .before .before .before .before .before .before .before .pre .0 .of .accepted) in
+    omega (arith, f .inputs-high, f .gates-high)
 
 loop-holds : tie.Need-loop-holds Inv-loop μ-loop
-loop-holds c = (
-  search needs,
-  rowed-none (core-regular _ _ (c .before .before .before .before .before .before .before .before .pre .accepted)) _,
-  counted-none _,
-  counted-none _,
-  record { known-all = search needs; none-known = refl; cells-all = search needs },
-)
-
-kept : (c : tie.At-loop Inv-loop μ-loop) → length (c .loop .buffer) ≡ length (c .before .before .before .before .before .before .before .before .before .args .buffer .now)
-kept c =
-    let p = c .before .before .before .before .before .before .before .before .before .pre in
-    rowed-kept (core-regular _ _ (p .accepted)) _ (c .loop .change) _ _ (p .enough) (c .loop .inv .1) (c .loop .inv .0)
-
--- the next row has room
-room : (c : tie.In-loop Inv-loop μ-loop) → let o = c .before .before .before .before .before .before .before .before .before .before .args .outputs in
-    c .before .loop .change * o + o ≤ length (c .before .loop .buffer)
-room c =
-    let p = c .before .before .before .before .before .before .before .before .before .before .pre in
-    rowed-room (core-regular _ _ (p .accepted)) _ (c .before .loop .change) _ _ (p .enough) (c .before .loop .inv .1) (c .loop-test .taken)
+loop-holds c =
+    let s = c .before .before .before .before .before .before .before .before .before .before in
+    (search needs, rowed-none (regular s) _, counted-none _, counted-none _, s .pre .1, refl, refl)
 
 mul-at : tie.Need-mul-at Inv-loop μ-loop
 mul-at c = omega (arith, room c, kept (c .before))
 
-slice-aggregate-core-row : tie.Need-slice-aggregate-core-row Inv-loop μ-loop
-slice-aggregate-core-row c = search needs
+fill-inputs-requires : tie.Need-fill-inputs-requires Inv-loop μ-loop
+fill-inputs-requires c κs =
+    let i = c .before in
+    let f = listed _ _ (given (begun (i .before)) .accepted) in
+    (f .width-high, omega (arith, f .changes-high, i .loop-test .taken), omega (arith, i .before .loop .inv .4 .told))
 
-slice-aggregate-core-row-2 : tie.Need-slice-aggregate-core-row-2 Inv-loop μ-loop
-slice-aggregate-core-row-2 c = search needs
+slice-reshare-prefix-search-outputs : tie.Need-slice-reshare-prefix-search-outputs Inv-loop μ-loop
+slice-reshare-prefix-search-outputs c =
+    let f = c .before .before .before .before in
+    omega (arith, at f .loop .inv .4 .told, f .fill-inputs .kept .1 .1 .1 .0)
 
-slice-aggregate-core-row-3 : tie.Need-slice-aggregate-core-row-3 Inv-loop μ-loop
-slice-aggregate-core-row-3 c = search needs
+slice-aggregate-search-outputs : tie.Need-slice-aggregate-search-outputs Inv-loop μ-loop
+slice-aggregate-search-outputs c = sym (lent-all (c .before .before .before .before .before))
 
-sub-core-row : tie.Need-sub-core-row Inv-loop μ-loop
-sub-core-row c = omega (arith, room (c .before .before .before .before .before))
+sub-search-outputs : tie.Need-sub-search-outputs Inv-loop μ-loop
+sub-search-outputs c = omega (arith, room (inside (c .before .before .before .before .before .before)))
 
-part-core-row-start : tie.Need-part-core-row-start Inv-loop μ-loop
-part-core-row-start c = omega (arith, room (c .before .before .before .before .before))
+part-search-outputs-start : tie.Need-part-search-outputs-start Inv-loop μ-loop
+part-search-outputs-start c = omega (arith, room (inside (c .before .before .before .before .before .before)))
 
-part-core-row-end : tie.Need-part-core-row-end Inv-loop μ-loop
-part-core-row-end c = omega arith
+part-search-outputs-end : tie.Need-part-search-outputs-end Inv-loop μ-loop
+part-search-outputs-end c = omega arith
 
-core-row-requires : tie.Need-core-row-requires Inv-loop μ-loop
-core-row-requires c κs =
-    let i = c .before .before .before .before .before .before in
-    let p = i .before .before .before in
-    let s = i .before .before .before .before .before .before .before .before .before .before in
-    let at = i .before .loop .change * s .args .outputs in (
-      record {
-        table-is = refl;
-        images-are = p .before .before .before .images .ensures;
-        wanteds-are = p .before .before .wanted-table .ensures;
-        rest = _;
-        places-are = p .fill-places .ensures;
-        of =
-            record {
-              pins = _;
-              changes = _;
-              accepted = s .pre .accepted;
-              early = i .loop-test .taken;
-              enough = lent-room at (s .args .outputs) (i .before .loop .buffer) (room i);
-            };
-      },
-      i .before .loop .inv .4,
-    )
-
--- the counts with this change's
-counted : (c : tie.After-core-row Inv-loop μ-loop) → let l = c .before .before .before .before .before .before .before .before in let a = l .before .before .before .before .before .before .before .before .before .args in
-    Counted (coreSum (λ a. a .gates) (a .netlist .now) (a .list .now)) (l .loop .change + 1) (l .loop .visited + c .core-row .result .gates) × Counted (coreSum (λ a. a .pins) (a .netlist .now) (a .list .now)) (l .loop .change + 1) (l .loop .taken + c .core-row .result .pins)
-counted c =
-    let l = c .before .before .before .before .before .before .before .before in
-    let s = l .before .before .before .before .before .before .before .before .before in (
-      counted-next (l .loop .inv .2) _ (c .core-row .ensures .0) (searched-high _ _ (s .pre .accepted) (l .loop .change) .0),
-      counted-next (l .loop .inv .3) _ (c .core-row .ensures .1) (searched-high _ _ (s .pre .accepted) (l .loop .change) .1),
+search-outputs-requires : tie.Need-search-outputs-requires Inv-loop μ-loop
+search-outputs-requires c κs =
+    let f = c .before .before .before .before .before .before .before in
+    let l = at f in
+    let s = begun l in
+    let t = l .before .before .before in (
+      searchable (netlist s) (list s) (rows s) (task s) (given s) (l .loop .change) (lent f) (known f) _
+          (t .before .images .ensures) (t .lookup .ensures) (lent-room (l .loop .change * outputs s) (outputs s) (l .loop .buffer) (room (inside f))),
+      omega (arith, lent-all f, l .loop .inv .4 .told, l .loop .inv .4 .celled),
     )
 
 add-visited : tie.Need-add-visited Inv-loop μ-loop
 add-visited c =
-    let j = c .before .before .before .before .before in
-    omega (arith, counted j .0 .high, listed _ _ (j .before .before .before .before .before .before .before .before .before .before .before .before .before .before .before .before .before .pre .accepted) .changes-high)
+    let o = c .before .before .before .before .before in
+    omega (arith, visited o .high, changes-few o, inside (filling o) .loop-test .taken)
 
 add-taken : tie.Need-add-taken Inv-loop μ-loop
 add-taken c =
-    let j = c .before .before .before .before .before .before in
-    omega (arith, counted j .1 .high, listed _ _ (j .before .before .before .before .before .before .before .before .before .before .before .before .before .before .before .before .before .pre .accepted) .changes-high)
+    let o = c .before .before .before .before .before .before in
+    omega (arith, taken o .high, changes-few o, inside (filling o) .loop-test .taken)
 
 add-change : tie.Need-add-change Inv-loop μ-loop
 add-change c =
-    let i = c .before .before .before .before .before .before .before .before .before .before .before .before .before in
-    omega (arith, i .loop-test .taken, listed _ _ (i .before .before .before .before .before .before .before .before .before .before .pre .accepted) .changes-high)
+    let o = c .before .before .before .before .before .before in
+    omega (arith, changes-few o, inside (filling o) .loop-test .taken)
 
 loop-less : tie.Need-loop-less Inv-loop μ-loop
 loop-less c = search needs
 
 loop-again : tie.Need-loop-again Inv-loop μ-loop
 loop-again c =
-    let j = c .before .before .before .before .before .before in
-    let l = j .before .before .before .before .before .before .before .before in (
-      search needs,
-      rowed-next (core-regular _ _ (l .before .before .before .before .before .before .before .before .before .pre .accepted)) (l .loop .change) _ _ _ (l .loop .inv .1) (j .core-row .ensures .2),
-      counted j .0,
-      counted j .1,
-      record { known-all = search needs; none-known = j .core-row .ensures .3 ∙ l .loop .inv .4 .none-known; cells-all = search needs },
+    let o = c .before .before .before .before .before .before in
+    let f = filling o in
+    let l = at f in
+    let s = begun l in (
+      omega (arith, inside f .loop-test .taken),
+      rowed-next (regular s) (l .loop .change) _ _ _ (l .loop .inv .1)
+          (o .search-outputs .ensures .1 .1 .0 ∙ bytes-are (netlist s) (list s) (rows s) (task s) (given s) (l .loop .change) _ (known f) _),
+      visited o,
+      taken o,
+      room-next (l .loop .inv .4) (list s) (task s .width) (l .loop .change) _ _ (f .fill-inputs .ensures) (f .fill-inputs .kept .1 .1 .1 .0)
+          (o .search-outputs .kept .1 .1 .1 .1 .1 .0),
+      f .fill-inputs .kept .1 .1 .1 .0 ∙ l .loop .inv .5,
+      o .search-outputs .kept .1 .1 .1 .1 .1 .0 ∙ l .loop .inv .6,
     )
 
 same-length : tie.Need-same-length Inv-loop μ-loop
-same-length c = kept (c .before)
+same-length c = search needs
+
+same-length-2 : tie.Need-same-length-2 Inv-loop μ-loop
+same-length-2 c = search needs
+
+same-length-3 : tie.Need-same-length-3 Inv-loop μ-loop
+same-length-3 c = kept (c .before)
 
 returns : tie.Need-returns Inv-loop μ-loop
 returns c =
-    let e : c .before .loop .change ≡ c .before .before .before .before .before .before .before .before .before .before .args .changes = search needs in
+    let s = begun (c .before) in
     let i = c .before .loop .inv in
-    let wide = core-regular _ _ (c .before .before .before .before .before .before .before .before .before .before .pre .accepted) .wide in
-    record { answer = rw (← e) (λ k. Done (c .before .loop .change) (wide k) (i .2 .is k) (i .3 .is k)); bytes = rw (← e) (i .1) }
+    let e : c .before .loop .change ≡ task s .changes = search needs in
+    record { answer = rw (← e) (λ k. Done (c .before .loop .change) (regular s .wide k) (i .2 .is k) (i .3 .is k)); bytes = rw (← e) (i .1) }
 
 pub core-rows-spec : {M : Type 1} → statement M
 core-rows-spec =
@@ -158,22 +228,23 @@ core-rows-spec =
     Inv-loop
     μ-loop
     images-requires
-    wanted-table-requires
-    slice-aggregate-fill-places
-    fill-places-requires
+    lookup-requires
+    add-signals
     loop-holds
     mul-at
-    slice-aggregate-core-row
-    slice-aggregate-core-row-2
-    slice-aggregate-core-row-3
-    sub-core-row
-    part-core-row-start
-    part-core-row-end
-    core-row-requires
+    fill-inputs-requires
+    slice-reshare-prefix-search-outputs
+    slice-aggregate-search-outputs
+    sub-search-outputs
+    part-search-outputs-start
+    part-search-outputs-end
+    search-outputs-requires
     add-visited
     add-taken
     add-change
     loop-less
     loop-again
     same-length
+    same-length-2
+    same-length-3
     returns)

@@ -1,28 +1,132 @@
 -- `batch::forward_rows` meets its contract. The loop's invariant: the rows of the changes so far are written, and the counts are summed. Assumes nothing.
-use Prim.Native.Nat.{_+_, _-_, _*_, _≤_}
+use Prim.Native.Nat.{ℕ, _+_, _-_, _*_, _≤_}
 use native.Mathlib.Omega.{arith}
-use mathlib.Core.Path.{_≡_}
-use lib.ListN.{length}
+use mathlib.Core.Path.{_≡_, refl, sym, _∙_, ap}
+use mathlib.Core.List.{List}
+use lib.ListN.{length, take}
+use Rattle.changes.specs.Lent.{Accepts, signalsOf}
+use Rattle.changes.specs.declared.Task.{Task}
 use Rattle.changes.proofs.Accepted.{listed}
+use Rattle.simulate.proofs.Laws.{filled-passable}
 use Rattle.forward.specs.Forward.{touchedIn, visitedIn}
-use Rattle.forward.proofs.Answers.{places-fit}
+use Rattle.forward.proofs.Changes as changes
 use Rattle.batch.specs.declared.Judged.the-variants.{Done}
 use Rattle.batch.specs.Batch.{forwardOf}
 use Rattle.batch.specs.Lent.{rowed}
-use Rattle.batch.proofs.Rows.{lent-room, rowed-none, rowed-kept, rowed-room, rowed-next}
+use Rattle.batch.proofs.Rows.{Regular, lent-room, rowed-none, rowed-kept, rowed-room, rowed-next}
 use Rattle.batch.proofs.Changes.{Counted, counted-none, counted-next, card, forward-regular, touched-high, visited-high}
 use borrow.Author.Needs.{needs}
 use Rattle.batch.proofs.forward_rows.Statement.{statement}
 use Rattle.batch.proofs.forward_rows.Tie as tie
 
 abbrev Inv-loop : tie.InvT-loop
-Inv-loop netlist list inputs gates outputs entries width changes buffer₀ table images wanteds places touched₀ visited₀ change₀ buffer touched visited change =
-    (change ≤ changes) × (buffer ≡ rowed (forwardOf netlist list) change buffer₀) × Counted (touchedIn netlist list) change touched
-    × Counted (visitedIn netlist list) change visited
+Inv-loop netlist list task rows known₀ cells₀ buffer₀ table images lookup shape signals outputs touched₀ visited₀ change₀ change-end known cells buffer touched visited change =
+    (change ≤ change-end) × (buffer ≡ rowed (forwardOf netlist list) change buffer₀) × Counted (touchedIn netlist list) change touched
+    × Counted (visitedIn netlist list) change visited × (length known ≡ length known₀) × (length cells ≡ length cells₀)
 
 abbrev μ-loop : tie.MeasureT-loop
-μ-loop netlist list inputs gates outputs entries width changes buffer₀ table images wanteds places touched₀ visited₀ change₀ buffer touched visited change =
-    changes - change
+μ-loop netlist list task rows known₀ cells₀ buffer₀ table images lookup shape signals outputs touched₀ visited₀ change₀ change-end known cells buffer touched visited change =
+    change-end - change
+
+-- what is lent
+module _ (c : tie.Start Inv-loop μ-loop) where
+  abbrev netlist : List ℕ
+  netlist = c .args .netlist .now
+
+  abbrev list : List ℕ
+  list = c .args .list .now
+
+  abbrev rows : List ℕ
+  rows = c .args .rows .now
+
+  abbrev task : Task
+  task = c .args .task
+
+  abbrev signals : ℕ
+  signals = signalsOf (task .shape)
+
+  abbrev outputs : ℕ
+  outputs = task .shape .outputs
+
+  given : Accepts netlist list rows task
+  given = c .pre .0 .of
+
+  regular : Regular (forwardOf netlist list) outputs
+  regular = forward-regular netlist list (given .accepted)
+
+-- the rows so far leave the buffer its length, and the bytes for each signal
+module _ (c : tie.At-loop Inv-loop μ-loop) where
+  abbrev begun : tie.Start Inv-loop μ-loop
+  begun = c .before .before .before .before .before .before .before .before .before .before .before .before
+
+  kept : length (c .loop .buffer) ≡ length (begun .args .buffer .now)
+  kept = rowed-kept (regular begun) (task begun .changes) (c .loop .change) _ _ (begun .pre .0 .enough) (c .loop .inv .1) (c .loop .inv .0)
+
+  told : signals begun ≤ length (c .loop .known)
+  told = omega (arith, begun .pre .1 .0, c .loop .inv .4)
+
+  celled : length (c .loop .known) ≤ length (c .loop .cells)
+  celled = omega (arith, begun .pre .1 .1, c .loop .inv .4, c .loop .inv .5)
+
+-- room for the next row
+room : (c : tie.In-loop Inv-loop μ-loop) → let o = outputs (begun (c .before)) in c .before .loop .change * o + o ≤ length (c .before .loop .buffer)
+room c =
+    let s = begun (c .before) in
+    rowed-room (regular s) (task s .changes) (c .before .loop .change) _ _ (s .pre .0 .enough) (c .before .loop .inv .1) (c .loop-test .taken)
+
+-- what is lent as known
+module _ (c : tie.After-spread Inv-loop μ-loop) where
+  abbrev filling : tie.After-fill-inputs Inv-loop μ-loop
+  filling = c .before .before .before .before .before .before
+
+  abbrev inside : tie.In-loop Inv-loop μ-loop
+  inside = filling .before .before
+
+  abbrev at : tie.At-loop Inv-loop μ-loop
+  at = inside .before
+
+  abbrev b : tie.Start Inv-loop μ-loop
+  b = begun at
+
+  abbrev lent : List ℕ
+  lent = take (signals b) (c .spread .last .1 .1 .1 .1 .0)
+
+  known : lent ≡ changes.known (netlist b) (list b) (rows b) (task b) (given b) (at .loop .change) (at .loop .known) (told at)
+  known =
+      changes.known-by (netlist b) (list b) (rows b) (task b) (given b) (at .loop .change) (at .loop .known) (told at) _
+      (filling .fill-inputs .ensures) _ (c .spread .ensures .1 .0)
+
+  lent-all : length lent ≡ signals b
+  lent-all = ap length known ∙ changes.known-length (netlist b) (list b) (rows b) (task b) (given b) (at .loop .change) (at .loop .known) (told at)
+
+  -- the touched count with this change's
+  touched : Counted (touchedIn (netlist b) (list b)) (at .loop .change + 1) (at .loop .touched + c .spread .result)
+  touched =
+      counted-next (at .loop .inv .2) _
+      (changes.touched-by (netlist b) (list b) (rows b) (task b) (given b) (at .loop .change) (at .loop .known) (told at) _ (filling .fill-inputs .ensures) _
+      (c .spread .ensures .0))
+      (touched-high (netlist b) (list b) (given b .accepted) (at .loop .change))
+
+-- the gates visited with this change's
+module _ (c : tie.After-search-outputs Inv-loop μ-loop) where
+  abbrev spreading : tie.After-spread Inv-loop μ-loop
+  spreading = c .before .before .before .before .before .before .before .before .before .before
+
+  abbrev l : tie.At-loop Inv-loop μ-loop
+  l = at spreading
+
+  abbrev s : tie.Start Inv-loop μ-loop
+  s = begun l
+
+  visited : Counted (visitedIn (netlist s) (list s)) (l .loop .change + 1) (l .loop .visited + c .search-outputs .result .gates)
+  visited =
+      counted-next (l .loop .inv .3) _
+      (changes.visited-by (netlist s) (list s) (rows s) (task s) (given s) (l .loop .change) (l .loop .known) (told l) _ (known spreading) _
+      (c .search-outputs .ensures .0))
+      (visited-high (netlist s) (list s) (given s .accepted) (l .loop .change))
+
+  changes-few : task s .changes ≤ 1000
+  changes-few = listed (netlist s) (list s) (given s .accepted) .changes-high
 
 gate-table-requires : tie.Need-gate-table-requires Inv-loop μ-loop
 gate-table-requires c κs = search needs
@@ -30,114 +134,120 @@ gate-table-requires c κs = search needs
 images-requires : tie.Need-images-requires Inv-loop μ-loop
 images-requires c κs = search needs
 
-wanted-table-requires : tie.Need-wanted-table-requires Inv-loop μ-loop
-wanted-table-requires c κs = search needs
+lookup-requires : tie.Need-lookup-requires Inv-loop μ-loop
+lookup-requires c κs = search needs
 
-slice-aggregate-fill-places : tie.Need-slice-aggregate-fill-places Inv-loop μ-loop
-slice-aggregate-fill-places c = search needs
-
-fill-places-requires : tie.Need-fill-places-requires Inv-loop μ-loop
-fill-places-requires c κs = places-fit _ (card _ _ (c .before .before .before .before .before .before .before .pre .accepted))
+add-signals : tie.Need-add-signals Inv-loop μ-loop
+add-signals c =
+    let f = card _ _ (c .before .before .before .before .before .before .before .before .before .before .before .pre .0 .of .accepted) in
+    omega (arith, f .inputs-high, f .gates-high)
 
 loop-holds : tie.Need-loop-holds Inv-loop μ-loop
-loop-holds c = (search needs, rowed-none (forward-regular _ _ (c .before .before .before .before .before .before .before .before .before .pre .accepted)) _, counted-none _, counted-none _)
-
-kept : (c : tie.At-loop Inv-loop μ-loop) → length (c .loop .buffer) ≡ length (c .before .before .before .before .before .before .before .before .before .before .args .buffer .now)
-kept c =
-    let p = c .before .before .before .before .before .before .before .before .before .before .pre in
-    rowed-kept (forward-regular _ _ (p .accepted)) _ (c .loop .change) _ _ (p .enough) (c .loop .inv .1) (c .loop .inv .0)
-
--- the next row has room
-room : (c : tie.In-loop Inv-loop μ-loop) → let o = c .before .before .before .before .before .before .before .before .before .before .before .args .outputs in
-    c .before .loop .change * o + o ≤ length (c .before .loop .buffer)
-room c =
-    let p = c .before .before .before .before .before .before .before .before .before .before .before .pre in
-    rowed-room (forward-regular _ _ (p .accepted)) _ (c .before .loop .change) _ _ (p .enough) (c .before .loop .inv .1) (c .loop-test .taken)
+loop-holds c = (
+  search needs,
+  rowed-none (regular (c .before .before .before .before .before .before .before .before .before .before .before)) _,
+  counted-none _,
+  counted-none _,
+  refl,
+  refl,
+)
 
 mul-at : tie.Need-mul-at Inv-loop μ-loop
 mul-at c = omega (arith, room c, kept (c .before))
 
-slice-aggregate-judge : tie.Need-slice-aggregate-judge Inv-loop μ-loop
-slice-aggregate-judge c = search needs
+fill-inputs-requires : tie.Need-fill-inputs-requires Inv-loop μ-loop
+fill-inputs-requires c κs =
+    let i = c .before in
+    let f = listed _ _ (given (begun (i .before)) .accepted) in
+    (f .width-high, omega (arith, f .changes-high, i .loop-test .taken), omega (arith, told (i .before)))
 
-sub-judge : tie.Need-sub-judge Inv-loop μ-loop
-sub-judge c = omega (arith, room (c .before .before .before .before))
-
-part-judge-start : tie.Need-part-judge-start Inv-loop μ-loop
-part-judge-start c = omega (arith, room (c .before .before .before .before))
-
-part-judge-end : tie.Need-part-judge-end Inv-loop μ-loop
-part-judge-end c = omega arith
-
-judge-requires : tie.Need-judge-requires Inv-loop μ-loop
-judge-requires c κs =
-    let i = c .before .before .before .before .before in
-    let p = i .before .before .before in
-    let s = i .before .before .before .before .before .before .before .before .before .before .before in
-    let at = i .before .loop .change * s .args .outputs in
-    record {
-      table-is = p .before .before .before .before .gate-table .ensures;
-      images-are = p .before .before .before .images .ensures;
-      wanteds-are = p .before .before .wanted-table .ensures;
-      rest = _;
-      places-are = p .fill-places .ensures;
-      of =
-          record {
-            pins = _;
-            changes = _;
-            accepted = s .pre .accepted;
-            early = i .loop-test .taken;
-            enough = lent-room at (s .args .outputs) (i .before .loop .buffer) (room i);
-          };
-    }
-
--- the counts with this change's
-counted : (c : tie.After-judge Inv-loop μ-loop) → let l = c .before .before .before .before .before .before .before in let a = l .before .before .before .before .before .before .before .before .before .before .args in
-    Counted (touchedIn (a .netlist .now) (a .list .now)) (l .loop .change + 1) (l .loop .touched + c .judge .result .touched) × Counted (visitedIn (a .netlist .now) (a .list .now)) (l .loop .change + 1) (l .loop .visited + c .judge .result .visited)
-counted c =
-    let l = c .before .before .before .before .before .before .before in
-    let s = l .before .before .before .before .before .before .before .before .before .before in (
-      counted-next (l .loop .inv .2) _ (c .judge .ensures .0) (touched-high _ _ (s .pre .accepted) (l .loop .change)),
-      counted-next (l .loop .inv .3) _ (c .judge .ensures .1) (visited-high _ _ (s .pre .accepted) (l .loop .change)),
+spread-requires : tie.Need-spread-requires Inv-loop μ-loop
+spread-requires c κs =
+    let f = c .before .before .before .before .before in
+    let l = f .before .before .before in (
+      l .before .before .before .before .before .gate-table .ensures,
+      filled-passable _ _ _ _ (given (begun l)) _ _ _ (f .fill-inputs .ensures) _ (told l) (omega (arith, told l, celled l)),
     )
 
 add-touched : tie.Need-add-touched Inv-loop μ-loop
 add-touched c =
-    let j = c .before .before .before in
-    omega (arith, counted j .0 .high, listed _ _ (j .before .before .before .before .before .before .before .before .before .before .before .before .before .before .before .before .before .pre .accepted) .changes-high)
+    let p = c .before .before .before .before in
+    let s = b p in
+    omega (arith, touched p .high, listed _ _ (given s .accepted) .changes-high, inside p .loop-test .taken)
+
+slice-reshare-prefix-search-outputs : tie.Need-slice-reshare-prefix-search-outputs Inv-loop μ-loop
+slice-reshare-prefix-search-outputs c =
+    let p = c .before .before .before .before .before .before in
+    omega (arith, told (at p), p .spread .kept .1 .1 .1 .1 .0, filling p .fill-inputs .kept .1 .1 .1 .0)
+
+slice-aggregate-search-outputs : tie.Need-slice-aggregate-search-outputs Inv-loop μ-loop
+slice-aggregate-search-outputs c = sym (lent-all (c .before .before .before .before .before .before .before))
+
+sub-search-outputs : tie.Need-sub-search-outputs Inv-loop μ-loop
+sub-search-outputs c = omega (arith, room (inside (c .before .before .before .before .before .before .before .before)))
+
+part-search-outputs-start : tie.Need-part-search-outputs-start Inv-loop μ-loop
+part-search-outputs-start c = omega (arith, room (inside (c .before .before .before .before .before .before .before .before)))
+
+part-search-outputs-end : tie.Need-part-search-outputs-end Inv-loop μ-loop
+part-search-outputs-end c = omega arith
+
+search-outputs-requires : tie.Need-search-outputs-requires Inv-loop μ-loop
+search-outputs-requires c κs =
+    let p = c .before .before .before .before .before .before .before .before .before in
+    let l = at p in
+    let s = begun l in
+    let t = l .before .before .before in (
+      changes.searchable (netlist s) (list s) (rows s) (task s) (given s) (l .loop .change) (l .loop .known) (told l)
+          (t .before .images .ensures) (t .lookup .ensures) (lent p) (known p) _
+          (lent-room (l .loop .change * outputs s) (outputs s) (l .loop .buffer) (room (inside p))),
+      omega (arith, lent-all p, told l, celled l, p .spread .kept .1 .1 .1 .1 .1 .0),
+    )
 
 add-visited : tie.Need-add-visited Inv-loop μ-loop
 add-visited c =
-    let j = c .before .before .before .before in
-    omega (arith, counted j .1 .high, listed _ _ (j .before .before .before .before .before .before .before .before .before .before .before .before .before .before .before .before .before .pre .accepted) .changes-high)
+    let o = c .before .before .before .before .before in
+    omega (arith, visited o .high, changes-few o, inside (spreading o) .loop-test .taken)
 
 add-change : tie.Need-add-change Inv-loop μ-loop
 add-change c =
-    let i = c .before .before .before .before .before .before .before .before .before .before in
-    omega (arith, i .loop-test .taken, listed _ _ (i .before .before .before .before .before .before .before .before .before .before .before .pre .accepted) .changes-high)
+    let o = c .before .before .before .before .before in
+    omega (arith, changes-few o, inside (spreading o) .loop-test .taken)
 
 loop-less : tie.Need-loop-less Inv-loop μ-loop
 loop-less c = search needs
 
 loop-again : tie.Need-loop-again Inv-loop μ-loop
 loop-again c =
-    let j = c .before .before .before .before in
-    let l = j .before .before .before .before .before .before .before in (
-      search needs,
-      rowed-next (forward-regular _ _ (l .before .before .before .before .before .before .before .before .before .before .pre .accepted)) (l .loop .change) _ _ _ (l .loop .inv .1) (j .judge .ensures .2),
-      counted j .0,
-      counted j .1,
+    let o = c .before .before .before .before .before in
+    let p = spreading o in
+    let l = at p in
+    let s = begun l in (
+      omega (arith, inside p .loop-test .taken),
+      rowed-next (regular s) (l .loop .change) _ _ _ (l .loop .inv .1)
+          (changes.bytes-by (netlist s) (list s) (rows s) (task s) (given s) (l .loop .change) (l .loop .known) (told l) _ (known p) _ _
+          (o .search-outputs .ensures .1 .1 .0)),
+      touched p,
+      visited o,
+      p .spread .kept .1 .1 .1 .1 .0 ∙ filling p .fill-inputs .kept .1 .1 .1 .0 ∙ l .loop .inv .4,
+      o .search-outputs .kept .1 .1 .1 .1 .1 .0 ∙ p .spread .kept .1 .1 .1 .1 .1 .0 ∙ l .loop .inv .5,
     )
 
 same-length : tie.Need-same-length Inv-loop μ-loop
-same-length c = kept (c .before)
+same-length c = search needs
+
+same-length-2 : tie.Need-same-length-2 Inv-loop μ-loop
+same-length-2 c = search needs
+
+same-length-3 : tie.Need-same-length-3 Inv-loop μ-loop
+same-length-3 c = kept (c .before)
 
 returns : tie.Need-returns Inv-loop μ-loop
 returns c =
-    let e : c .before .loop .change ≡ c .before .before .before .before .before .before .before .before .before .before .before .args .changes = search needs in
+    let s = begun (c .before) in
     let i = c .before .loop .inv in
-    let wide = forward-regular _ _ (c .before .before .before .before .before .before .before .before .before .before .before .pre .accepted) .wide in
-    record { answer = rw (← e) (λ k. Done (c .before .loop .change) (wide k) (i .2 .is k) (i .3 .is k)); bytes = rw (← e) (i .1) }
+    let e : c .before .loop .change ≡ task s .changes = search needs in
+    record { answer = rw (← e) (λ k. Done (c .before .loop .change) (regular s .wide k) (i .2 .is k) (i .3 .is k)); bytes = rw (← e) (i .1) }
 
 pub forward-rows-spec : {M : Type 1} → statement M
 forward-rows-spec =
@@ -147,20 +257,24 @@ forward-rows-spec =
     μ-loop
     gate-table-requires
     images-requires
-    wanted-table-requires
-    slice-aggregate-fill-places
-    fill-places-requires
+    lookup-requires
+    add-signals
     loop-holds
     mul-at
-    slice-aggregate-judge
-    sub-judge
-    part-judge-start
-    part-judge-end
-    judge-requires
+    fill-inputs-requires
+    spread-requires
     add-touched
+    slice-reshare-prefix-search-outputs
+    slice-aggregate-search-outputs
+    sub-search-outputs
+    part-search-outputs-start
+    part-search-outputs-end
+    search-outputs-requires
     add-visited
     add-change
     loop-less
     loop-again
     same-length
+    same-length-2
+    same-length-3
     returns)

@@ -9,7 +9,7 @@ use borrow.Author.Needs.{needs}
 use Rattle.changes.specs.Changes.{widthOf, sizeOf}
 use Rattle.changes.specs.Refusals.{sparesFrom}
 use Rattle.changes.proofs.Laws.{changes-left}
-use Rattle.changes.proofs.Refusals.{spare-stop, spare-pass, spares-split, spares-end}
+use Rattle.changes.proofs.Refusals.{spare-stop, spare-pass, spares-split, spares-end, spares-eight}
 use Rattle.changes.proofs.check_spares.Statement.{statement}
 use Rattle.changes.proofs.check_spares.Tie as tie
 
@@ -22,10 +22,10 @@ abbrev μ-loop : tie.MeasureT-loop
 
 -- a turn has a whole change before it
 whole : (c : tie.In-loop Inv-loop μ-loop)
-    → (let a = c .before .before .before .args in
+    → (let a = c .before .before .before .before .args in
     length (a .list .now) ≡ c .before .loop .at + sizeOf (widthOf (a .inputs)) + (a .changes - (c .before .loop .t + 1)) * sizeOf (widthOf (a .inputs)))
 whole c =
-    let a = c .before .before .before .args in
+    let a = c .before .before .before .before .args in
     omega (arith, changes-left (a .changes) (c .before .loop .t) (sizeOf (widthOf (a .inputs))) (c .loop-test .taken))
 
 add-width : tie.Need-add-width Inv-loop μ-loop
@@ -40,6 +40,10 @@ mul-used c = search needs
 sub-used : tie.Need-sub-used Inv-loop μ-loop
 sub-used c = search needs
 
+-- eight inputs in a vector's last byte leave no bit spare
+returns : tie.Need-returns Inv-loop μ-loop
+returns c = let k = c .before in sym (spares-eight _ _ _ _ _ (c .if1 .taken) (λ at. omega (arith, k .shared-slice-known .given at)))
+
 loop-holds : tie.Need-loop-holds Inv-loop μ-loop
 loop-holds c = (search needs, rw sub-zero (search needs), rw sub-zero refl)
 
@@ -52,10 +56,10 @@ sub-first c = search needs
 bits-above-requires : tie.Need-bits-above-requires Inv-loop μ-loop
 bits-above-requires c κs = (omega (arith, whole c), search needs)
 
-returns : tie.Need-returns Inv-loop μ-loop
-returns c =
+returns-2 : tie.Need-returns-2 Inv-loop μ-loop
+returns-2 c =
     let l = c .before .before in
-    sym (l .before .loop .inv .2 ∙ spares-split _ _ _ _ _ _ (l .loop-test .taken) ∙ spare-stop _ _ _ _ _ (c .before .bits-above .ensures) (c .if1 .taken))
+    sym (l .before .loop .inv .2 ∙ spares-split _ _ _ _ _ _ (l .loop-test .taken) ∙ spare-stop _ _ _ _ _ (c .before .bits-above .ensures) (c .if2 .taken))
 
 add-second : tie.Need-add-second Inv-loop μ-loop
 add-second c = search needs
@@ -69,12 +73,12 @@ sub-second c = search needs
 bits-above-requires-2 : tie.Need-bits-above-requires-2 Inv-loop μ-loop
 bits-above-requires-2 c κs = (omega (arith, whole (c .before .before)), search needs)
 
-returns-2 : tie.Need-returns-2 Inv-loop μ-loop
-returns-2 c =
+returns-3 : tie.Need-returns-3 Inv-loop μ-loop
+returns-3 c =
     let l = c .before .before .before .before in
     let first = c .before .before in
     sym (l .before .loop .inv .2 ∙ spares-split _ _ _ _ _ _ (l .loop-test .taken)
-    ∙ spare-pass _ _ _ _ _ (first .before .bits-above .ensures) (first .if1 .left) ∙ spare-stop _ _ _ _ _ (c .before .bits-above2 .ensures) (c .if2 .taken))
+    ∙ spare-pass _ _ _ _ _ (first .before .bits-above .ensures) (first .if2 .left) ∙ spare-stop _ _ _ _ _ (c .before .bits-above2 .ensures) (c .if3 .taken))
 
 mul-at : tie.Need-mul-at Inv-loop μ-loop
 mul-at c = search needs
@@ -95,11 +99,11 @@ loop-again c =
       search needs,
       whole l,
       l .before .loop .inv .2 ∙ spares-split _ _ _ _ _ _ (l .loop-test .taken)
-          ∙ spare-pass _ _ _ _ _ (first .before .bits-above .ensures) (first .if1 .left) ∙ spare-pass _ _ _ _ _ (c .before .bits-above2 .ensures) (c .if2 .left),
+          ∙ spare-pass _ _ _ _ _ (first .before .bits-above .ensures) (first .if2 .left) ∙ spare-pass _ _ _ _ _ (c .before .bits-above2 .ensures) (c .if3 .left),
     )
 
-returns-3 : tie.Need-returns-3 Inv-loop μ-loop
-returns-3 c = sym (c .before .loop .inv .2 ∙ spares-end _ _ _ _ _ _ (c .loop-test .left))
+returns-4 : tie.Need-returns-4 Inv-loop μ-loop
+returns-4 c = sym (c .before .loop .inv .2 ∙ spares-end _ _ _ _ _ _ (c .loop-test .left))
 
 pub check-spares-spec : {M : Type 1} → statement M
 check-spares-spec =
@@ -111,19 +115,20 @@ check-spares-spec =
     add-used
     mul-used
     sub-used
+    returns
     loop-holds
     add-first
     sub-first
     bits-above-requires
-    returns
+    returns-2
     add-second
     add-second-2
     sub-second
     bits-above-requires-2
-    returns-2
+    returns-3
     mul-at
     add-at
     add-t
     loop-less
     loop-again
-    returns-3)
+    returns-4)

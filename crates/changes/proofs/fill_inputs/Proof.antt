@@ -11,16 +11,16 @@ use Rattle.changes.proofs.fill_inputs.Statement.{statement}
 use Rattle.changes.proofs.fill_inputs.Tie as tie
 
 abbrev Inv-loop : tie.InvT-loop
-Inv-loop list width t inputs buffer₀ first second whole j₀ buffer j = (j ≤ whole) × (buffer ≡ written buffer₀ 0 (codeAt list width t) (8 * j))
+Inv-loop list t buffer₀ inputs width first second whole j₀ buffer j = (j ≤ whole) × (buffer ≡ written buffer₀ 0 (codeAt list width t) (8 * j))
 
 abbrev μ-loop : tie.MeasureT-loop
-μ-loop list width t inputs buffer₀ first second whole j₀ buffer j = whole - j
+μ-loop list t buffer₀ inputs width first second whole j₀ buffer j = whole - j
 
-kept : (c : tie.At-loop Inv-loop μ-loop) → length (c .loop .buffer) ≡ length (c .before .before .before .args .buffer .now)
+kept : (c : tie.At-loop Inv-loop μ-loop) → length (c .loop .buffer) ≡ length (c .before .before .before .before .args .buffer .now)
 kept c = ap length (c .loop .inv .1) ∙ written-kept _ _ _ _ (search needs)
 
-high : (c : tie.After-slice-known Inv-loop μ-loop) → c .before .before .args .t * sizeOf (c .before .before .args .width) ≤ 64000
-high c = change-high _ _ (c .before .before .pre .0) (c .before .before .pre .1)
+high : (c : tie.After-shape Inv-loop μ-loop) → c .before .before .before .args .t * sizeOf (c .before .before .before .args .task .width) ≤ 64000
+high c = change-high _ _ (c .before .before .before .pre .0) (c .before .before .before .pre .1)
 
 mul-first : tie.Need-mul-first Inv-loop μ-loop
 mul-first c = search needs
@@ -95,7 +95,7 @@ returns c =
     let f = c .before .before in
     let b = f .before .before in
     let l = b .before .before .before in
-    let n = l .before .before .before .args .inputs in
+    let n = l .before .before .before .before .args .task .shape .inputs in
     let e : 8 * (n / 8) + n % 8 ≡ n = omega arith in
     let whole : l .loop .j ≡ n / 8 = search needs in
     f .fill-byte2 .ensures

@@ -1,7 +1,4 @@
 -- `core::guard` meets its contract. Assumes nothing.
-use mathlib.Core.Path.{_≡_, sym}
-use mathlib.Core.Bool.{cond}
-use lib.Dec.{ltb}
 use borrow.Author.Tests.{lt-ltb, le-ltb}
 use Rattle.words.specs.Refusal.{refuse}
 use Rattle.core.specs.Codes.{guardedFound}

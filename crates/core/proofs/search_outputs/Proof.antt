@@ -15,35 +15,42 @@ use Rattle.core.proofs.search_outputs.Statement.{statement}
 use Rattle.core.proofs.search_outputs.Tie as tie
 
 abbrev Inv-loop : tie.InvT-loop
-Inv-loop images wanteds netlist places known cells₀ inputs outputs entries buffer₀ gates₀ pins₀ output₀ cells buffer gates pins output =
-    (output ≤ outputs) × (gates ≡ sumFrom (λ a. a .gates) netlist known entries output) × (pins ≡ sumFrom (λ a. a .pins) netlist known entries output)
-    × (gates ≤ 18432 * output) × (pins ≤ 18432 * output) × (buffer ≡ written buffer₀ 0 (byteFrom netlist known entries) output) × (length cells ≡ length cells₀)
-    × (cells ≡ cellsFrom netlist known entries output cells₀)
+Inv-loop images lookup rows known cells₀ buffer₀ signals gates₀ pins₀ output₀ output-end cells buffer gates pins output =
+    (output ≤ output-end) × (gates ≡ sumFrom (λ a. a .gates) rows known signals output) × (pins ≡ sumFrom (λ a. a .pins) rows known signals output)
+    × (gates ≤ 18432 * output) × (pins ≤ 18432 * output) × (buffer ≡ written buffer₀ 0 (byteFrom rows known signals) output) × (length cells ≡ length cells₀)
+    × (cells ≡ cellsFrom rows known signals output cells₀)
 
 abbrev μ-loop : tie.MeasureT-loop
-μ-loop images wanteds netlist places known cells₀ inputs outputs entries buffer₀ gates₀ pins₀ output₀ cells buffer gates pins output =
-    outputs - output
+μ-loop images lookup rows known cells₀ buffer₀ signals gates₀ pins₀ output₀ output-end cells buffer gates pins output = output-end - output
+
+-- where the function starts
+abbrev begun : tie.At-loop Inv-loop μ-loop → tie.Start Inv-loop μ-loop
+begun c = c .before .before .before .before .before .before
 
 -- the bytes keep their number
-kept : (c : tie.At-loop Inv-loop μ-loop) → length (c .loop .buffer) ≡ length (c .before .before .before .before .before .before .args .buffer .now)
-kept c = ap length (c .loop .inv .5) ∙ written-kept _ _ _ _ (omega (arith, c .before .before .before .before .before .before .pre .0 .enough))
+kept : (c : tie.At-loop Inv-loop μ-loop) → length (c .loop .buffer) ≡ length (begun c .args .buffer .now)
+kept c = ap length (c .loop .inv .5) ∙ written-kept _ _ _ _ (omega (arith, begun c .pre .0 .enough))
+
+add-signals : tie.Need-add-signals Inv-loop μ-loop
+add-signals c = let p = c .before .before .before .before .before .pre .0 in omega (arith, p .all-known, p .ready .few-signals)
 
 loop-holds : tie.Need-loop-holds Inv-loop μ-loop
 unfolding sumBelow cellsFrom
 loop-holds c = (search needs, refl, refl, search needs, search needs, written-none _ _ _, refl, refl)
 
-entry-at-requires : tie.Need-entry-at-requires Inv-loop μ-loop
-entry-at-requires c κs = search needs
+output-of-requires : tie.Need-output-of-requires Inv-loop μ-loop
+output-of-requires c κs = omega (arith, begun (c .before) .pre .0 .listed, c .loop-test .taken)
 
 cast-signal : tie.Need-cast-signal Inv-loop μ-loop
 cast-signal c = search needs
 
 find-requires : tie.Need-find-requires Inv-loop μ-loop
 find-requires c κs =
-    let p = c .before .before .before .before .before .before .before .before .before .pre in
-    let l = c .before .before .before .loop in
-    let below = p .0 .output-below (l .output) (c .before .before .loop-test .taken) in
-    (p .0 .ready, (omega (arith, c .before .entry-at .ensures), omega (arith, c .before .entry-at .ensures, p .1, l .inv .6)))
+    let o = c .before in
+    let l = o .before .before in
+    let p = begun l .pre in
+    let below = p .0 .output-below (l .loop .output) (o .before .loop-test .taken) in
+    (p .0 .ready, (omega (arith, o .output-of .ensures), omega (arith, o .output-of .ensures, p .1, l .loop .inv .6)))
 
 byte-of-requires : tie.Need-byte-of-requires Inv-loop μ-loop
 byte-of-requires c κs = search needs
@@ -51,26 +58,28 @@ byte-of-requires c κs = search needs
 slice-write-buffer : tie.Need-slice-write-buffer Inv-loop μ-loop
 slice-write-buffer c =
     let l = c .before .before .before .before .before .before .before in
-    omega (arith, kept l, l .before .before .before .before .before .before .pre .0 .enough)
+    omega (arith, kept l, begun l .pre .0 .enough)
 
 -- a search visits no more gates than there are signals, and takes no more than eight pins of each
 few : (c : tie.After-find Inv-loop μ-loop) → (c .find .result .gates ≤ 18432) × (c .find .result .pins ≤ 18432)
 few c =
-    let l = c .before .before .before .before in
-    let p = l .before .before .before .before .before .before .pre .0 in
-    let at = c .before .before .entry-at .ensures in
-    let most = found-few _ _ _ _ _ at _ (c .find .ensures .0) (p .ready) in
-    (omega (arith, at, p .signals-high, p .output-below (l .loop .output) (c .before .before .before .loop-test .taken), most .0), most .1)
+    let o = c .before .before in
+    let l = o .before .before in
+    let p = begun l .pre .0 in
+    let at = o .output-of .ensures in
+    let below = p .output-below (l .loop .output) (o .before .loop-test .taken) in
+    let most = found-few _ _ _ _ _ at _ (c .find .ensures .0) (p .ready) (omega arith) in
+    (omega (arith, at, p .ready .few-signals, below, most .0), most .1)
 
 add-gates : tie.Need-add-gates Inv-loop μ-loop
 add-gates c =
     let f = c .before .before .before .before in
-    omega (arith, f .before .before .before .before .before .before .before .before .before .before .pre .0 .outputs-high, few f .0)
+    omega (arith, begun (f .before .before .before .before) .pre .0 .outputs-high, few f .0)
 
 add-pins : tie.Need-add-pins Inv-loop μ-loop
 add-pins c =
     let f = c .before .before .before .before .before in
-    omega (arith, f .before .before .before .before .before .before .before .before .before .before .pre .0 .outputs-high, few f .1)
+    omega (arith, begun (f .before .before .before .before) .pre .0 .outputs-high, few f .1)
 
 add-output : tie.Need-add-output Inv-loop μ-loop
 add-output c = search needs
@@ -82,15 +91,14 @@ loop-again : tie.Need-loop-again Inv-loop μ-loop
 loop-again c =
     let f = c .before .before .before .before .before in
     let l = f .before .before .before .before in
-    let b = l .before .before .before .before .before .before in
-    let at = f .before .before .entry-at .ensures in
+    let at = f .before .before .output-of .ensures in
     let is = found-is _ _ _ _ _ at _ (f .find .ensures .0) in (
       search needs,
       found-next _ _ _ _ _ at _ (f .find .ensures .0) (λ a. a .gates) _ _ (l .loop .inv .1) (ap (λ f. f .gates) is),
       found-next _ _ _ _ _ at _ (f .find .ensures .0) (λ a. a .pins) _ _ (l .loop .inv .2) (ap (λ f. f .pins) is),
       omega (arith, few f .0),
       omega (arith, few f .1),
-      found-byte _ _ _ _ _ at _ (f .find .ensures .0) _ _ (l .loop .inv .5) (omega (arith, b .pre .0 .enough)) _ (c .before .before .byte-of .ensures),
+      found-byte _ _ _ _ _ at _ (f .find .ensures .0) _ _ (l .loop .inv .5) (omega (arith, begun l .pre .0 .enough)) _ (c .before .before .byte-of .ensures),
       search needs,
       cells-next _ _ _ _ _ at _ _ (l .loop .inv .7) _ (f .find .ensures .1),
     )
@@ -103,7 +111,7 @@ same-length-2 c = kept (c .before)
 
 returns : tie.Need-returns Inv-loop μ-loop
 returns c =
-    let e : c .before .loop .output ≡ c .before .before .before .before .before .before .before .args .outputs = search needs in
+    let e : c .before .loop .output ≡ begun (c .before) .args .shape .outputs = search needs in
     rw (← e) (c .before .loop .inv .1, (c .before .loop .inv .2, (c .before .loop .inv .5, c .before .loop .inv .7)))
 
 pub search-outputs-spec : {M : Type 1} → statement M
@@ -112,8 +120,9 @@ search-outputs-spec =
     (tie.spec
     Inv-loop
     μ-loop
+    add-signals
     loop-holds
-    entry-at-requires
+    output-of-requires
     cast-signal
     find-requires
     byte-of-requires

@@ -1,64 +1,88 @@
--- `forward::forward` meets its contract, case by case. Assumes nothing.
-use mathlib.Core.Path.{sym, _∙_}
-use Rattle.forward.proofs.Answers.{refused-list, refused-change, refused-room, done}
+-- `forward::forward` meets its contract: the arrays are room for the card. Assumes nothing.
+use mathlib.Core.Path.{subst}
+use Prim.Native.Nat.{_≤_}
+use Rattle.core.proofs.Rooms.{small-room, middle-room, large-room}
 use borrow.Author.Needs.{needs}
 use Rattle.forward.proofs.forward.Statement.{statement}
 use Rattle.forward.proofs.forward.Tie as tie
 
-check-requires : tie.Need-check-requires
-check-requires c κs = search needs
+signals-in-requires : tie.Need-signals-in-requires
+signals-in-requires c κs = search needs
 
-enum-known-listed : tie.Need-enum-known-listed
-enum-known-listed c = search needs
+slice-aggregate-forward-in : tie.Need-slice-aggregate-forward-in
+slice-aggregate-forward-in c = search needs
 
-enum-known-listed-2 : tie.Need-enum-known-listed-2
-enum-known-listed-2 c = search needs
+slice-aggregate-forward-in-2 : tie.Need-slice-aggregate-forward-in-2
+slice-aggregate-forward-in-2 c = search needs
 
-returns : tie.Need-returns
-returns c =
-    let k = c .before .before in
-    refused-change _ _ _ _ (sym (k .before .before .check .ensures) ∙ k .listed2 .given .1) (c .if1 .taken)
+slice-aggregate-forward-in-3 : tie.Need-slice-aggregate-forward-in-3
+slice-aggregate-forward-in-3 c = search needs
 
-returns-2 : tie.Need-returns-2
-returns-2 c =
-    let k = c .before .before .before in
-    refused-room _ _ _ _ (sym (k .before .before .check .ensures) ∙ k .listed2 .given .1) (c .before .if1 .left) (c .if2 .taken)
-
-judge-alone-requires : tie.Need-judge-alone-requires
-judge-alone-requires c κs =
-    let k = c .before .before .before .before in
-    record {
-      pins = _;
-      changes = _;
-      accepted = sym (k .before .before .check .ensures) ∙ k .listed2 .given .1;
-      early = c .before .before .if1 .left;
-      enough = c .before .if2 .left;
-    }
-
-returns-3 : tie.Need-returns-3
-returns-3 c = refused-list _ _ _ _ _ _ (sym (c .before .before .before .check .ensures) ∙ c .before .listed .given .1)
+forward-in-requires : tie.Need-forward-in-requires
+forward-in-requires c κs = let t = c .before .before .before .before in small-room _ (subst (λ s. s ≤ 64) (t .before .signals-in .ensures) (t .if1 .taken))
 
 same-length : tie.Need-same-length
 same-length c = search needs
 
-returns-4 : tie.Need-returns-4
-returns-4 c =
-    let else = c .before .before .before .before in
-    let k = else .before .before .before in
-    let counted = c .before .before .judge-alone .ensures in
-    done _ _ _ _ (sym (k .before .before .check .ensures) ∙ k .listed2 .given .1) (else .before .if1 .left) (else .if2 .left) _ _
-    (counted .0) (counted .1) _ (counted .2)
+returns : tie.Need-returns
+returns c = search needs
+
+slice-aggregate-forward-in-4 : tie.Need-slice-aggregate-forward-in-4
+slice-aggregate-forward-in-4 c = search needs
+
+slice-aggregate-forward-in-5 : tie.Need-slice-aggregate-forward-in-5
+slice-aggregate-forward-in-5 c = search needs
+
+slice-aggregate-forward-in-6 : tie.Need-slice-aggregate-forward-in-6
+slice-aggregate-forward-in-6 c = search needs
+
+forward-in-requires-2 : tie.Need-forward-in-requires-2
+forward-in-requires-2 c κs = let t = c .before .before .before .before in middle-room _ (subst (λ s. s ≤ 512) (t .before .before .signals-in .ensures) (t .if2 .taken))
+
+same-length-2 : tie.Need-same-length-2
+same-length-2 c = search needs
+
+returns-2 : tie.Need-returns-2
+returns-2 c = search needs
+
+slice-aggregate-forward-in-7 : tie.Need-slice-aggregate-forward-in-7
+slice-aggregate-forward-in-7 c = search needs
+
+slice-aggregate-forward-in-8 : tie.Need-slice-aggregate-forward-in-8
+slice-aggregate-forward-in-8 c = search needs
+
+slice-aggregate-forward-in-9 : tie.Need-slice-aggregate-forward-in-9
+slice-aggregate-forward-in-9 c = search needs
+
+forward-in-requires-3 : tie.Need-forward-in-requires-3
+forward-in-requires-3 c κs = large-room _
+
+same-length-3 : tie.Need-same-length-3
+same-length-3 c = search needs
+
+returns-3 : tie.Need-returns-3
+returns-3 c = search needs
 
 pub forward-spec : {M : Type 1} → statement M
 forward-spec =
     tie.close
     (tie.spec
-    check-requires
-    enum-known-listed
-    enum-known-listed-2
-    returns
-    returns-2
-    judge-alone-requires
-    returns-3
+    signals-in-requires
+    slice-aggregate-forward-in
+    slice-aggregate-forward-in-2
+    slice-aggregate-forward-in-3
+    forward-in-requires
     same-length
-    returns-4)
+    returns
+    slice-aggregate-forward-in-4
+    slice-aggregate-forward-in-5
+    slice-aggregate-forward-in-6
+    forward-in-requires-2
+    same-length-2
+    returns-2
+    slice-aggregate-forward-in-7
+    slice-aggregate-forward-in-8
+    slice-aggregate-forward-in-9
+    forward-in-requires-3
+    same-length-3
+    returns-3)

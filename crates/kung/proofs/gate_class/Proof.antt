@@ -1,8 +1,8 @@
 -- `kung::gate_class` meets its contract. Assumes nothing.
-use mathlib.Core.Path.{_∙_, ap, ap₂}
+use mathlib.Core.Path.{_∙_}
 use lib.ListN.{getD}
 use Prim.Native.Nat.{_+_, _*_}
-use Rattle.kung.proofs.Places.{gate-at}
+use Rattle.kung.proofs.Gates.{gate-at}
 use borrow.Author.Needs.{needs}
 use Rattle.kung.proofs.gate_class.Statement.{statement}
 use Rattle.kung.proofs.gate_class.Tie as tie
@@ -26,7 +26,7 @@ returns : tie.Need-returns
 returns c =
     let a = c .before .before .before .args in
     (λ i. getD (c .before .before .before .pre i) (c .before .before .wide .ensures i * 256 + c .before .wide2 .ensures i) 0)
-    ∙ gate-at (a .kind) (a .set) (search needs)
+    ∙ gate-at (a .gate) (a .set) (search needs)
 
 pub gate-class-spec : {M : Type 1} → statement M
 gate-class-spec =

@@ -2,35 +2,22 @@
 use mathlib.Core.Path.{_∙_}
 use lib.Bits.{bitOr}
 use lib.ListN.{getD}
-use Prim.Native.Nat.{_+_, _*_}
-use Rattle.kung.proofs.Places.{block-at}
+use Rattle.kung.proofs.Lookups.{block-at}
 use borrow.Author.Needs.{needs}
 use Rattle.kung.proofs.in_block.Statement.{statement}
 use Rattle.kung.proofs.in_block.Tie as tie
 
-mul-result : tie.Need-mul-result
-mul-result c = search needs
-
-wide-requires : tie.Need-wide-requires
-wide-requires c κs = search needs
-
-add-result : tie.Need-add-result
-add-result c = search needs
+entry-in-requires : tie.Need-entry-in-requires
+entry-in-requires c κs = search needs
 
 element-copy-out-result : tie.Need-element-copy-out-result
 element-copy-out-result c = search needs
 
-mul-result-2 : tie.Need-mul-result-2
-mul-result-2 c = search needs
+add-entry-in : tie.Need-add-entry-in
+add-entry-in c = search needs
 
-wide-requires-2 : tie.Need-wide-requires-2
-wide-requires-2 c κs = search needs
-
-add-result-2 : tie.Need-add-result-2
-add-result-2 c = search needs
-
-add-result-3 : tie.Need-add-result-3
-add-result-3 c = search needs
+entry-in-requires-2 : tie.Need-entry-in-requires-2
+entry-in-requires-2 c κs = search needs
 
 element-copy-out-result-2 : tie.Need-element-copy-out-result-2
 element-copy-out-result-2 c = search needs
@@ -38,23 +25,16 @@ element-copy-out-result-2 c = search needs
 returns : tie.Need-returns
 returns c =
     let s = c .before .before .before .before in
-    let a = s .args in
-    (λ i.
-    bitOr (getD (s .pre .0 i) (a .block * 32 + c .before .before .before .wide .ensures i) 0)
-    (getD (s .pre .0 i) (a .block * 32 + (16 + c .before .wide2 .ensures i)) 0))
-    ∙ block-at (a .block) (a .set) (s .pre .1) (search needs)
+    (λ i. bitOr (getD (s .pre .0 i) (c .before .before .before .entry-in .ensures i) 0) (getD (s .pre .0 i) (c .before .entry-in2 .ensures i) 0))
+    ∙ block-at (s .args .block) (s .args .set) (s .pre .1) (search needs)
 
 pub in-block-spec : {M : Type 1} → statement M
 in-block-spec =
     tie.close
     (tie.spec
-    mul-result
-    wide-requires
-    add-result
+    entry-in-requires
     element-copy-out-result
-    mul-result-2
-    wide-requires-2
-    add-result-2
-    add-result-3
+    add-entry-in
+    entry-in-requires-2
     element-copy-out-result-2
     returns)

@@ -1,9 +1,8 @@
 -- `kung::reach_of` meets its contract: it has a block. Assumes nothing.
 use mathlib.Core.Path.{_∙_}
-use native.Mathlib.Omega.{arith}
 use Prim.Native.Nat.{_+_}
 use Rattle.kung.specs.Tables.{blockRule}
-use Rattle.kung.proofs.Places.{reach-block}
+use Rattle.kung.proofs.Lookups.{reach-block}
 use borrow.Author.Needs.{needs}
 use Rattle.kung.proofs.reach_of.Statement.{statement}
 use Rattle.kung.proofs.reach_of.Tie as tie
@@ -15,7 +14,7 @@ add-in-block : tie.Need-add-in-block
 add-in-block c = search needs
 
 in-block-requires : tie.Need-in-block-requires
-in-block-requires c κs = (c .before .pre, omega (arith, c .wide .ensures))
+in-block-requires c κs = search needs
 
 returns : tie.Need-returns
 returns c =
@@ -23,10 +22,4 @@ returns c =
     c .in-block .ensures ∙ (λ i. blockRule (16 + c .before .wide .ensures i) (a .set)) ∙ reach-block (a .operation) (a .set)
 
 pub reach-of-spec : {M : Type 1} → statement M
-reach-of-spec =
-    tie.close
-    (tie.spec
-    wide-requires
-    add-in-block
-    in-block-requires
-    returns)
+reach-of-spec = tie.close (tie.spec wide-requires add-in-block in-block-requires returns)

@@ -1,6 +1,7 @@
 -- `lanecard::lane_walk` meets its contract: where an opened walk starts, in words. Assumes nothing.
 use mathlib.Core.Path.{_≡_, _∙_, sym, ap}
 use Prim.Native.Nat.{ℕ}
+use Rattle.netlist.specs.declared.Shape.{Shape}
 use Rattle.netlist.specs.declared.Checked.the-variants.{Accepted, Refused}
 use Rattle.walk.specs.declared.Start.{Start}
 use Rattle.lanecard.specs.Answers.{accepted, refused, openedAnswer, startAnswer}
@@ -13,7 +14,7 @@ of-refused : (o : Start) {refusal at : ℕ} → o .checked ≡ Refused refusal a
 unfolding openedAnswer
 of-refused o e = ap (λ x. openedAnswer x (o .number) (o .place) (o .count)) e
 
-of-accepted : (o : Start) {inputs gates outputs pins entries : ℕ} → o .checked ≡ Accepted inputs gates outputs pins entries → startAnswer o ≡ accepted (o .number) (o .place) (o .count) 0 0
+of-accepted : (o : Start) {shape : Shape} → o .checked ≡ Accepted shape → startAnswer o ≡ accepted (o .number) (o .place) (o .count) 0 0
 unfolding openedAnswer
 of-accepted o e = ap (λ x. openedAnswer x (o .number) (o .place) (o .count)) e
 

@@ -27,14 +27,14 @@ put-refusal-requires c κs =
     let s = k .before .before .before .before .before .before .before in
     fits (refusal-length _ _ (omega (arith, k .known-told .given)) (omega (arith, k .known-told .given))) (s .pre)
 
-enum-known-inputs : tie.Need-enum-known-inputs
-enum-known-inputs c = search needs
+enum-known-task : tie.Need-enum-known-task
+enum-known-task c = search needs
 
 put-counts-requires : tie.Need-put-counts-requires
 put-counts-requires c κs =
-    let k = c .before .before in
+    let k = c .before .before .before in
     let s = k .before .before .before .before .before .before in
-    let l = listed _ _ (sym (k .before .before .check .ensures) ∙ k .inputs .given .1) in
+    let l = listed _ _ (sym (k .before .before .check .ensures) ∙ k .task .given .1) in
     let f = formed _ (l .netlist-accepted) in
     fits (counts-length _ _ _ _ (omega arith) (omega arith) (omega arith) (omega arith)) (s .pre)
 
@@ -55,8 +55,8 @@ returns-2 : tie.Need-returns-2
 unfolding firstLine
 returns-2 c =
     let p = c .before .before in
-    let k = p .before .before .before in
-    subst (Appended _ _ _ _) (ap firstLine (sym (sym (k .before .before .check .ensures) ∙ k .inputs .given .1))) (p .put-counts .ensures)
+    let k = p .before .before .before .before in
+    subst (Appended _ _ _ _) (ap firstLine (sym (sym (k .before .before .check .ensures) ∙ k .task .given .1))) (p .put-counts .ensures)
 
 pub put-line-spec : {M : Type 1} → statement M
 put-line-spec =
@@ -65,7 +65,7 @@ put-line-spec =
     check-requires
     enum-known-number
     put-refusal-requires
-    enum-known-inputs
+    enum-known-task
     put-counts-requires
     same-length
     returns

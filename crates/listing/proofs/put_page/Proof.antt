@@ -1,78 +1,255 @@
 -- `listing::put_page` meets its contract. The loop's invariant: the page has grown up to the change, which is one that is left. Assumes nothing.
-use Prim.Native.Nat.{_+_, _-_, _<_}
+use Prim.Native.Nat.{ℕ, _+_, _-_, _≤_, _<_}
 use native.Mathlib.Omega.{arith}
-use mathlib.Core.Path.{_≡_}
+use mathlib.Core.Path.{_≡_, refl, sym, _∙_, ap, subst}
+use mathlib.Core.List.{List, _++_}
+use lib.ListN.{length, take, drop, replicate, length-replicate}
+use Rattle.netlist.specs.Netlist.{inputsOf, gatesOf}
+use Rattle.netlist.specs.Formed.{Formed}
+use Rattle.changes.specs.declared.Task.{Task}
+use Rattle.changes.specs.Changes.{widthOf, inputClassAt}
+use Rattle.changes.specs.Formed.{ListFormed}
+use Rattle.changes.specs.Lent.{Accepts, signalsOf}
 use Rattle.changes.specs.Refusals.{listChecked}
+use Rattle.simulate.specs.Full.{codes}
+use Rattle.simulate.proofs.Laws.{swept}
+use Rattle.visit.specs.Lent.{inputsKnown}
+use Rattle.core.proofs.Entry as entry
+use Rattle.report.specs.Appended.{Appended}
 use Rattle.report.proofs.Appending.{kept}
-use Rattle.listing.specs.Listing.{printedChanges}
+use Rattle.listing.specs.Listing.{texts, changeLines, printedChanges}
+use Rattle.listing.specs.Lent.{textIn}
 use Rattle.listing.proofs.Laws.{changes-are}
 use Rattle.listing.proofs.Pages.{page-full, page-none, Grown, grown-none, grown-more, grown-all}
-use Rattle.listing.proofs.Prepared.{list-formed}
+use Rattle.listing.proofs.Prepared.{lines-same, lines-high}
+use borrow.Author.Needs.{needs}
 use Rattle.listing.proofs.put_page.Statement.{statement}
 use Rattle.listing.proofs.put_page.Tie as tie
 
 abbrev Inv-loop : tie.InvT-loop
-Inv-loop images wanteds table netlist list places sizes from buffer₀ change₀ at₀ buffer change at =
-    (change < sizes .changes) × Grown netlist list buffer₀ buffer from change at
+Inv-loop netlist list task rows from buffer₀ images lookup table shape signals classes₀ lines₀ change₀ at₀ buffer classes lines change at =
+    (change < task .changes) × (length classes ≡ 2304) × (length lines ≡ 256) × Grown netlist list buffer₀ buffer from change at
 
 abbrev μ-loop : tie.MeasureT-loop
-μ-loop images wanteds table netlist list places sizes from buffer₀ change₀ at₀ buffer change at = sizes .changes - change
+μ-loop netlist list task rows from buffer₀ images lookup table shape signals classes₀ lines₀ change₀ at₀ buffer classes lines change at =
+    task .changes - change
 
--- the changes to print are the sizes'
-changes : (c : tie.At-loop Inv-loop μ-loop) → let s = c .before .before .before .before .before in
-    s .args .sizes .changes ≡ printedChanges (listChecked (s .args .netlist .now) (s .args .list .now))
-changes c = let s = c .before .before .before .before .before in changes-are _ (s .args .sizes) (s .pre .0 .sizes-are)
+-- what the page is made from
+module _ (k : tie.At-loop Inv-loop μ-loop) where
+  abbrev begun : tie.Start Inv-loop μ-loop
+  begun = k .before .before .before .before .before .before .before .before .before .before
+
+  abbrev netlist : List ℕ
+  netlist = begun .args .netlist .now
+
+  abbrev list : List ℕ
+  list = begun .args .list .now
+
+  abbrev rows : List ℕ
+  rows = begun .args .rows .now
+
+  abbrev task : Task
+  task = begun .args .task
+
+  abbrev change : ℕ
+  change = k .loop .change
+
+  abbrev signals : ℕ
+  signals = signalsOf (task .shape)
+
+  abbrev given : Accepts netlist list rows task
+  given = begun .pre .0
+
+  card : Formed netlist (task .shape)
+  card = entry.card-formed netlist list rows task given change
+
+  of-list : ListFormed netlist list task
+  of-list = entry.list-formed netlist list rows task given change
+
+  few : signals ≤ 2304
+  few = omega (arith, card .inputs-high, card .gates-high)
+
+  -- the changes to print are the list's
+  changes : printedChanges (listChecked netlist list) ≡ task .changes
+  changes = changes-are (given .accepted)
+
+-- the classes of the change
+module _ (c : tie.After-classify Inv-loop μ-loop) where
+  abbrev inside : tie.At-loop Inv-loop μ-loop
+  inside = c .before .before .before .before
+
+  abbrev classes : List ℕ
+  classes = c .classify .last .1 .1 .1 .1 .1 .0
+
+  classified : classes ≡ codes (netlist inside) (list inside) (change inside) ++ drop (signals inside) (inside .loop .classes)
+  classified = swept (netlist inside) (list inside) (rows inside) (task inside) (given inside) (change inside) (inside .loop .classes) _ refl classes (c .classify .ensures)
+
+-- what is lent as known
+module _ (c : tie.After-fill-inputs Inv-loop μ-loop) where
+  abbrev k : tie.At-loop Inv-loop μ-loop
+  k = inside (c .before .before .before)
+
+  abbrev lent : List ℕ
+  lent = take (signals k) (c .fill-inputs .last .1 .1 .1 .0)
+
+  known : lent ≡ inputsKnown (inputsOf (netlist k)) (gatesOf (netlist k)) (inputClassAt (list k) (widthOf (inputsOf (netlist k))) (change k))
+  known =
+      entry.known-is (netlist k) (list k) (rows k) (task k) (given k) (change k) (replicate 2304 8) _
+      (sym (ap (λ m. drop (task k .shape .inputs) (replicate m 8)) (length-replicate {A = ℕ} 2304 8)))
+      (omega (arith, few k, length-replicate {A = ℕ} 2304 8)) (c .fill-inputs .ensures)
+
+  all-known : length lent ≡ signals k
+  all-known = ap length known ∙ entry.known-all (netlist k) (list k) (rows k) (task k) (given k) (change k)
+
+-- the lines of the change, from the numbers that are kept of its outputs
+module _ (c : tie.After-judge-outputs Inv-loop μ-loop) where
+  abbrev filled : tie.After-fill-inputs Inv-loop μ-loop
+  filled = c .before .before .before .before .before .before .before
+
+  abbrev here : tie.At-loop Inv-loop μ-loop
+  here = k filled
+
+  abbrev numbers : List ℕ
+  numbers = c .judge-outputs .last .1 .1 .1 .1 .1 .1 .0
+
+  same : texts (textIn numbers (change here)) 0 (task here .shape .outputs) ≡ changeLines (netlist here) (list here) (change here)
+  same =
+      lines-same (netlist here) (list here) (rows here) (task here) (given here) (change here) (here .loop .inv .0) (lent filled)
+      (classes (filled .before .before .before)) _ numbers (known filled) (classified (filled .before .before .before)) (c .judge-outputs .ensures)
+
+-- the page with the lines of one change more
+module _ (c : tie.After-put-lines Inv-loop μ-loop) where
+  abbrev judged : tie.After-judge-outputs Inv-loop μ-loop
+  judged = c .before .before .before .before
+
+  abbrev now : tie.At-loop Inv-loop μ-loop
+  now = here judged
+
+  more : Grown (netlist now) (list now) (begun now .args .buffer .now) (c .put-lines .last .1 .1 .1 .0) (begun now .args .from) (change now + 1) (c .put-lines .result)
+  more =
+      let g = now .loop .inv .3 in
+      grown-more (netlist now) (list now) g (omega (arith, changes now, now .loop .inv .0)) (omega (arith, filled judged .before .before .before .before .before .before .loop-test .taken, kept (g .there)))
+      (subst (Appended _ _ _ _) (same judged) (c .put-lines .ensures))
+
+images-requires : tie.Need-images-requires Inv-loop μ-loop
+images-requires c κs = search needs
+
+lookup-requires : tie.Need-lookup-requires Inv-loop μ-loop
+lookup-requires c κs = search needs
+
+gate-table-requires : tie.Need-gate-table-requires Inv-loop μ-loop
+gate-table-requires c κs = search needs
+
+add-signals : tie.Need-add-signals Inv-loop μ-loop
+add-signals c =
+    let s = c .before .before .before .before .before .before .before .before .before in
+    let f = entry.card-formed _ _ _ _ (s .pre .0) 0 in
+    omega (arith, f .inputs-high, f .gates-high)
 
 loop-holds : tie.Need-loop-holds Inv-loop μ-loop
 loop-holds c =
-    let s = c .before .before .before .before in
-    (s .pre .1, grown-none (s .args .netlist .now) (s .args .list .now) (s .args .buffer .now) (s .args .from))
+    let s = c .before .before .before .before .before .before .before .before .before in
+    (s .pre .1, search needs, search needs, grown-none (s .args .netlist .now) (s .args .list .now) (s .args .buffer .now) (s .args .from))
 
 sub-loop : tie.Need-sub-loop Inv-loop μ-loop
-sub-loop c = omega (arith, c .loop .inv .1 .there .after, c .loop .inv .1 .there .room, kept (c .loop .inv .1 .there))
+sub-loop c = let g = c .loop .inv .3 .there in omega (arith, g .after, g .room, kept g)
 
-put-change-requires : tie.Need-put-change-requires Inv-loop μ-loop
-put-change-requires c κs =
-    let k = c .before .before in
-    let s = k .before .before .before .before .before in
-    let g = k .loop .inv .1 .there in
-    (s .pre .0, (k .loop .inv .0, omega (arith, c .before .loop-test .taken, g .after, g .room, kept g)))
+slice-aggregate-classify : tie.Need-slice-aggregate-classify Inv-loop μ-loop
+slice-aggregate-classify c = search needs
+
+classify-requires : tie.Need-classify-requires Inv-loop μ-loop
+classify-requires c κs =
+    let k = c .before .before .before in (
+      k .before .before .before .gate-table .ensures,
+      record {
+        netlist = netlist k;
+        accepts = given k;
+        early = k .loop .inv .0;
+        enough = omega (arith, few k, k .loop .inv .1);
+      },
+    )
+
+slice-aggregate-fill-inputs : tie.Need-slice-aggregate-fill-inputs Inv-loop μ-loop
+slice-aggregate-fill-inputs c = search needs
+
+fill-inputs-requires : tie.Need-fill-inputs-requires Inv-loop μ-loop
+fill-inputs-requires c κs =
+    let k = c .before .before .before .before .before .before in
+    (of-list k .width-high, omega (arith, of-list k .changes-high, k .loop .inv .0), omega (arith, few k, length-replicate {A = ℕ} 2304 8))
+
+array-share-prefix-known : tie.Need-array-share-prefix-known Inv-loop μ-loop
+array-share-prefix-known c =
+    let f = c .before in
+    omega (arith, few (k f), f .fill-inputs .kept .1 .1 .1 .0, length-replicate {A = ℕ} 2304 8)
+
+slice-aggregate-lent : tie.Need-slice-aggregate-lent Inv-loop μ-loop
+slice-aggregate-lent c = sym (all-known (c .before .before))
+
+slice-aggregate-judge-outputs : tie.Need-slice-aggregate-judge-outputs Inv-loop μ-loop
+slice-aggregate-judge-outputs c = search needs
+
+slice-aggregate-judge-outputs-2 : tie.Need-slice-aggregate-judge-outputs-2 Inv-loop μ-loop
+slice-aggregate-judge-outputs-2 c = search needs
+
+judge-outputs-requires : tie.Need-judge-outputs-requires Inv-loop μ-loop
+judge-outputs-requires c κs =
+    let f = c .before .before .before .before .before .before in
+    let k = k f in
+    let t = k .before .before .before in
+    let r = entry.ready (netlist k) (list k) (rows k) (task k) (given k) (change k) (t .before .before .images .ensures) (t .before .lookup .ensures) (lent f) (known f) in (
+      entry.outputs-ready (netlist k) (list k) (rows k) (task k) (given k) (change k) (lent f) r (all-known f) 64 (card k .outputs-high),
+      (omega (arith, all-known f, few k, k .loop .inv .1, f .before .before .before .classify .kept .1 .1 .1 .1 .1 .0), omega (arith, k .loop .inv .2)),
+    )
+
+slice-aggregate-put-lines : tie.Need-slice-aggregate-put-lines Inv-loop μ-loop
+slice-aggregate-put-lines c = search needs
+
+put-lines-requires : tie.Need-put-lines-requires Inv-loop μ-loop
+put-lines-requires c κs =
+    let j = c .before .before .before in
+    let k = here j in
+    let g = k .loop .inv .3 .there in (
+      (card k .outputs-high, omega (arith, k .loop .inv .2, j .judge-outputs .kept .1 .1 .1 .1 .1 .1 .0)),
+      rw (same j)
+          (omega (
+            arith,
+            lines-high (netlist k) (list k) (rows k) (task k) (given k) (change k) (k .loop .inv .0),
+            filled j .before .before .before .before .before .before .loop-test .taken,
+            g .after,
+            g .room,
+            kept g,
+          )),
+    )
 
 add-change : tie.Need-add-change Inv-loop μ-loop
 add-change c =
-    let k = c .before .before .before .before .before in
-    let s = k .before .before .before .before .before in
-    omega (arith, list-formed _ _ (s .pre .0 .sizes-are) (k .loop .change) (k .loop .inv .0) .changes-high)
-
--- the page with the lines of one change more
-more : (c : tie.After-put-change Inv-loop μ-loop) → let k = c .before .before .before in
-    let a = k .before .before .before .before .before .args in
-    Grown (a .netlist .now) (a .list .now) (a .buffer .now) (c .put-change .last .1 .1 .1 .1 .1 .1 .1 .1 .0) (a .from) (k .loop .change + 1) (c .put-change .result)
-more c =
-    let k = c .before .before .before in
-    let a = k .before .before .before .before .before .args in
-    let g = k .loop .inv .1 in
-    grown-more (a .netlist .now) (a .list .now) g (omega (arith, changes k, k .loop .inv .0)) (omega (arith, c .before .before .loop-test .taken, kept (g .there))) (c .put-change .ensures)
+    let k = now (c .before .before) in
+    omega (arith, of-list k .changes-high, k .loop .inv .0)
 
 loop-less : tie.Need-loop-less Inv-loop μ-loop
 loop-less c =
-    let k = c .before .before .before .before .before .before .before in
+    let k = now (c .before .before .before .before) in
     omega (arith, k .loop .inv .0)
 
 loop-again : tie.Need-loop-again Inv-loop μ-loop
 loop-again c =
     let p = c .before .before .before .before in
-    (omega (arith, p .before .before .before .loop .inv .0, c .if1 .left), more p)
+    let k = now p in
+    let j = judged p in (
+      omega (arith, k .loop .inv .0, c .if1 .left),
+      omega (arith, k .loop .inv .1, filled j .before .before .before .classify .kept .1 .1 .1 .1 .1 .0),
+      omega (arith, k .loop .inv .2, j .judge-outputs .kept .1 .1 .1 .1 .1 .1 .0),
+      more p,
+    )
 
 same-length : tie.Need-same-length Inv-loop μ-loop
-same-length c = kept (c .before .loop .inv .1 .there)
+same-length c = kept (c .before .loop .inv .3 .there)
 
 returns : tie.Need-returns Inv-loop μ-loop
 returns c =
     let k = c .before in
-    let a = k .before .before .before .before .before .args in
-    let g = k .loop .inv .1 in
-    grown-all (a .netlist .now) (a .list .now) g (page-full _ _ _ _ (omega (arith, c .loop-test .left, kept (g .there))))
+    let g = k .loop .inv .3 in
+    grown-all (netlist k) (list k) g (page-full _ _ _ _ (omega (arith, c .loop-test .left, kept (g .there))))
 
 same-length-2 : tie.Need-same-length-2 Inv-loop μ-loop
 same-length-2 c = kept (more (c .before .before .before .before) .there)
@@ -80,9 +257,8 @@ same-length-2 c = kept (more (c .before .before .before .before) .there)
 returns-2 : tie.Need-returns-2 Inv-loop μ-loop
 returns-2 c =
     let p = c .before .before .before .before in
-    let k = p .before .before .before in
-    let a = k .before .before .before .before .before .args in
-    grown-all (a .netlist .now) (a .list .now) (more p) (page-none _ _ _ _ (omega (arith, c .if1 .taken, changes k)))
+    let k = now p in
+    grown-all (netlist k) (list k) (more p) (page-none _ _ _ _ (omega (arith, c .if1 .taken, changes k)))
 
 pub put-page-spec : {M : Type 1} → statement M
 put-page-spec =
@@ -90,9 +266,23 @@ put-page-spec =
     (tie.spec
     Inv-loop
     μ-loop
+    images-requires
+    lookup-requires
+    gate-table-requires
+    add-signals
     loop-holds
     sub-loop
-    put-change-requires
+    slice-aggregate-classify
+    classify-requires
+    slice-aggregate-fill-inputs
+    fill-inputs-requires
+    array-share-prefix-known
+    slice-aggregate-lent
+    slice-aggregate-judge-outputs
+    slice-aggregate-judge-outputs-2
+    judge-outputs-requires
+    slice-aggregate-put-lines
+    put-lines-requires
     add-change
     loop-less
     loop-again

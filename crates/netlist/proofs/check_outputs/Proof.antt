@@ -9,17 +9,18 @@ use Rattle.words.proofs.Refusal.{stop, pass}
 use Rattle.netlist.specs.declared.Checked.the-variants.{Refused}
 use Rattle.netlist.specs.Netlist.{outputs, accepted, wordsBelow}
 use Rattle.netlist.proofs.Refusals.{accepted-read, outputs-cut, outputs-start, words-stop, words-more, words-end}
+use Rattle.netlist.proofs.Keeping.{kept-refused, kept-read}
 use borrow.Author.Needs.{needs}
 use Rattle.netlist.proofs.check_outputs.Statement.{statement}
 use Rattle.netlist.proofs.check_outputs.Tie as tie
 
 abbrev Inv-loop : tie.InvT-loop
-Inv-loop s pins at inputs gates count end k₀ k =
+Inv-loop s rows pins at inputs gates count end k₀ k =
     (k ≤ count)
     × (outputs s (accepted s) ≡ wordsBelow (count - k) s (at + 2 * k) (inputs + gates) 9 (refuse Refused (ltb (at + 2 * count) (length s)) 10 (at + 2 * count) (accepted s)))
 
 abbrev μ-loop : tie.MeasureT-loop
-μ-loop s pins at inputs gates count end k₀ k = count - k
+μ-loop s rows pins at inputs gates count end k₀ k = count - k
 
 word-at-requires : tie.Need-word-at-requires Inv-loop μ-loop
 word-at-requires c κs = search needs
@@ -47,12 +48,13 @@ add-end c = search needs
 
 returns : tie.Need-returns Inv-loop μ-loop
 returns c =
-    let start = c .before .before .before .before .before in
-    sym (outputs-cut _ _ _ _ (c .before .word-at3 .ensures) (start .pre .1) (c .if1 .taken))
+    let start = c .before .before .before .before .before .before in
+    let e = outputs-cut _ _ _ _ (c .before .word-at3 .ensures) (start .pre .1) (c .if1 .taken) in
+    (sym e, sym (kept-refused _ _ _ e))
 
 loop-holds : tie.Need-loop-holds Inv-loop μ-loop
 loop-holds c =
-    let start = c .before .before .before .before .before in
+    let start = c .before .before .before .before .before .before in
     let inputs = c .before .before .before .word-at .ensures in
     let gates = c .before .before .word-at2 .ensures in
     (search needs, outputs-start _ _ _ _ (c .before .word-at3 .ensures) (start .pre .1) _ _ inputs gates (c .if1 .left))
@@ -73,7 +75,9 @@ cast-if2 : tie.Need-cast-if2 Inv-loop μ-loop
 cast-if2 c = search needs
 
 returns-2 : tie.Need-returns-2 Inv-loop μ-loop
-returns-2 c = sym (c .before .before .before .loop .inv .1 ∙ words-stop _ _ _ _ _ _ _ (c .before .before .loop-test .taken) (c .before .word-in .ensures) (c .if2 .taken))
+returns-2 c =
+    let e = c .before .before .before .loop .inv .1 ∙ words-stop _ _ _ _ _ _ _ (c .before .before .loop-test .taken) (c .before .word-in .ensures) (c .if2 .taken) in
+    (sym e, sym (kept-refused _ _ _ e))
 
 add-k : tie.Need-add-k Inv-loop μ-loop
 add-k c = search needs
@@ -84,15 +88,35 @@ loop-less c = search needs
 loop-again : tie.Need-loop-again Inv-loop μ-loop
 loop-again c = (search needs, c .before .before .before .loop .inv .1 ∙ words-more _ _ _ _ _ _ _ (c .before .before .loop-test .taken) (c .before .word-in .ensures) (c .if2 .left))
 
+add-keep-words : tie.Need-add-keep-words Inv-loop μ-loop
+add-keep-words c = search needs
+
+mul-keep-words : tie.Need-mul-keep-words Inv-loop μ-loop
+mul-keep-words c = search needs
+
+keep-words-requires : tie.Need-keep-words-requires Inv-loop μ-loop
+keep-words-requires c κs = search needs
+
 returns-3 : tie.Need-returns-3 Inv-loop μ-loop
-returns-3 c = sym (c .before .before .loop .inv .1 ∙ words-end _ _ _ _ _ _ _ (c .before .loop-test .left) ∙ stop _ _ _ _ _ (lt-ltb _ _ (c .if3 .taken)))
+returns-3 c =
+    let e = c .before .before .loop .inv .1 ∙ words-end _ _ _ _ _ _ _ (c .before .loop-test .left) ∙ stop _ _ _ _ _ (lt-ltb _ _ (c .if3 .taken)) in
+    (sym e, sym (kept-refused _ _ _ e))
+
+same-length : tie.Need-same-length Inv-loop μ-loop
+same-length c = search needs
 
 returns-4 : tie.Need-returns-4 Inv-loop μ-loop
 returns-4 c =
-    let e = c .before .before .loop .inv .1 ∙ words-end _ _ _ _ _ _ _ (c .before .loop-test .left) ∙ pass _ _ _ _ _ (le-ltb _ _ (c .if3 .left)) in
-    let read = c .before .before .before .before in
-    let start = read .before .before .before .before in
-    accepted-read _ (read .before .before .word-at .ensures) (read .before .word-at2 .ensures) (read .word-at3 .ensures) (start .pre .0) (start .pre .1) ∙ sym e
+    let l = c .before .before .before .before .before in
+    let e = l .before .loop .inv .1 ∙ words-end _ _ _ _ _ _ _ (l .loop-test .left) ∙ pass _ _ _ _ _ (le-ltb _ _ (c .before .before .before .before .if3 .left)) in
+    let read = l .before .before .before in
+    let start = read .before .before .before .before .before in
+    let i = read .before .before .word-at .ensures in
+    let g = read .before .word-at2 .ensures in
+    let o = read .word-at3 .ensures in (
+      accepted-read _ i g o (start .pre .0) (start .pre .1) ∙ sym e,
+      c .before .before .keep-words .ensures ∙ kept-read _ _ _ e i g o (start .pre .1),
+    )
 
 pub check-outputs-spec : {M : Type 1} → statement M
 check-outputs-spec =
@@ -119,5 +143,9 @@ check-outputs-spec =
     add-k
     loop-less
     loop-again
+    add-keep-words
+    mul-keep-words
+    keep-words-requires
     returns-3
+    same-length
     returns-4)

@@ -1,64 +1,99 @@
--- `check_records`: at each record, and in it at each pin, what is left of the check is the whole of what follows the counts. Assumes nothing.
-use Prim.Native.Nat.{ℕ, _+_, _-_, _*_, _≤_, _<_}
+-- `check_records`: at each record, and in it at each pin, what is left of the check is the whole of what follows the counts, and so of the
+-- rows. Assumes nothing.
+use Prim.Native.Nat.{ℕ, _+_, _-_, _*_, _<_}
 use native.Mathlib.Omega.{arith}
-use mathlib.Core.Path.{_≡_, _∙_, sym}
+use mathlib.Core.Path.{_≡_, refl, _∙_, sym, ap, ap₂}
+use mathlib.Core.Bool.{cond}
 use mathlib.Core.List.{List}
 use lib.Arith.{lt-of-le-ne}
-use lib.ListN.{length}
-use borrow.Author.Needs.{needs}
+use lib.Dec.{ltb}
+use Rattle.kung.specs.Rule.{each}
+use Rattle.kung.specs.Tables.{tab}
+use Rattle.rows.specs.Making.{ones, putAt}
+use Rattle.netlist.specs.declared.Checked.{Checked}
+use Rattle.netlist.specs.declared.Checked.the-variants.{Refused}
 use Rattle.netlist.specs.declared.Head.the-variants.{Pins}
-use Rattle.netlist.specs.Netlist.{countAt, pastRecord, recordAt, wordsBelow, body}
+use Rattle.netlist.specs.Netlist.{inputsOf, gatesOf, recordAt, wordsBelow, body}
 use Rattle.netlist.specs.Reading.{headAt}
+use Rattle.netlist.specs.Decoded.{rowsFrom, withOutputs}
 use Rattle.netlist.proofs.Refusals.{words-stop, words-more, words-end}
-use Rattle.netlist.proofs.Heads.{head-told, record-refused, record-pins}
-use Rattle.netlist.proofs.Leading.{once-passed}
-use Rattle.netlist.proofs.Reached.{Reached, after, reached-first, reached-last, reached-own, reached-next}
+use Rattle.netlist.proofs.Heads.{HeadTold, head-told, record-refused, record-pins}
+use Rattle.netlist.proofs.Passing.{fits-not}
+use Rattle.netlist.proofs.Keeping.{kept-refused}
+use Rattle.netlist.proofs.Together.{all-passed}
+use Rattle.netlist.proofs.Reached.{Reached, reached-first, reached-last, reached-own, reached-unfit, reached-next, row-read}
+use borrow.Author.Needs.{needs}
 use Rattle.netlist.proofs.check_records.Statement.{statement}
 use Rattle.netlist.proofs.check_records.Tie as tie
 
 abbrev Inv-pins : tie.InvT-pins
-Inv-pins s inputs gates gate at pins count signal k₀ k = body s ≡ wordsBelow (count - k) s (at + 2 + 2 * k) signal 8 (after s gates gate)
+Inv-pins s rows inputs gates window meanings gate at pins count word signal row k₀ k =
+    (next : Checked) → recordAt s signal at next ≡ wordsBelow (count - k) s (at + 2 + 2 * k) signal 8 next
 
 abbrev μ-pins : tie.MeasureT-pins
-μ-pins s inputs gates gate at pins count signal k₀ k = count - k
+μ-pins s rows inputs gates window meanings gate at pins count word signal row k₀ k = count - k
 
 abbrev Inv-records : tie.InvT-records
-Inv-records s inputs gates gate₀ at₀ pins₀ gate at pins = Reached s gates gate at pins
+Inv-records s rows₀ inputs gates window meanings gate₀ at₀ pins₀ rows gate at pins = Reached s rows₀ gates gate at pins rows
 
 abbrev μ-records : tie.MeasureT-records
-μ-records s inputs gates gate₀ at₀ pins₀ gate at pins = gates - gate
+μ-records s rows₀ inputs gates window meanings gate₀ at₀ pins₀ rows gate at pins = gates - gate
 
--- the bytes, and the counts that were read
+-- the bytes and the rows that were lent, and the counts that were read
+abbrev start : tie.At-records Inv-pins μ-pins Inv-records μ-records → tie.Start Inv-pins μ-pins Inv-records μ-records
+start a = a .before .before .before .before .before .before
+
 abbrev bytes : tie.At-records Inv-pins μ-pins Inv-records μ-records → List ℕ
-bytes a = a .before .before .before .before .args .s .now
+bytes a = start a .args .s .now
+
+abbrev old : tie.At-records Inv-pins μ-pins Inv-records μ-records → List ℕ
+old a = start a .args .rows .now
 
 abbrev inputs : tie.At-records Inv-pins μ-pins Inv-records μ-records → ℕ
-inputs a = a .before .before .word-at .result
+inputs a = a .before .before .before .word-at .result
+
+inputs-are : (a : tie.At-records Inv-pins μ-pins Inv-records μ-records) → inputs a ≡ inputsOf (bytes a)
+inputs-are a = a .before .before .before .word-at .ensures
 
 abbrev gates : tie.At-records Inv-pins μ-pins Inv-records μ-records → ℕ
-gates a = a .before .word-at2 .result
+gates a = a .before .before .word-at2 .result
+
+gates-are : (a : tie.At-records Inv-pins μ-pins Inv-records μ-records) → gates a ≡ gatesOf (bytes a)
+gates-are a = a .before .before .word-at2 .ensures
+
+abbrev signal : tie.At-records Inv-pins μ-pins Inv-records μ-records → ℕ
+signal a = inputs a + a .records .gate
 
 more : (c : tie.Else1 Inv-pins μ-pins Inv-records μ-records) → c .before .records .gate < gates (c .before)
 more c = lt-of-le-ne (c .before .records .inv .gate-high) (c .if1 .left)
 
--- the record's own part of what is left
-own : (c : tie.Else1 Inv-pins μ-pins Inv-records μ-records) → let a = c .before in
-    body (bytes a) ≡ recordAt (bytes a) (inputs a + a .records .gate) (a .records .at) (after (bytes a) (gates a) (a .records .gate))
-own c = let a = c .before in reached-own _ _ _ _ _ (a .records .inv) (more c) (inputs a) (a .before .before .word-at .ensures)
+-- where the record is refused, whatever follows it, the check ends with that
+refused : (c : tie.Else1 Inv-pins μ-pins Inv-records μ-records) (number place : ℕ) → let a = c .before in
+    ((next : Checked) → recordAt (bytes a) (signal a) (a .records .at) next ≡ Refused number place)
+    → (Refused number place ≡ body (bytes a)) × (a .records .rows ≡ withOutputs (body (bytes a)) (bytes a) (rowsFrom (gatesOf (bytes a)) 0 (bytes a) (old a)))
+refused c number place r =
+    let a = c .before in
+    let e = reached-own _ _ _ _ _ _ _ (a .records .inv) (more c) (inputs a) (inputs-are a) ∙ r _ in (
+      sym e,
+      sym (kept-refused (bytes a) _ _ e ∙ reached-unfit _ _ _ _ _ _ _ (a .records .inv) (more c) (inputs a) (inputs-are a) (fits-not _ _ _ r)),
+    )
 
--- its pins are counted, and have room
-abbrev start : tie.After-known-told2 Inv-pins μ-pins Inv-records μ-records → tie.Else1 Inv-pins μ-pins Inv-records μ-records
-start c = c .before .before .before .before
+-- the record's head
+abbrev at-record : tie.After-known-told2 Inv-pins μ-pins Inv-records μ-records → tie.Else1 Inv-pins μ-pins Inv-records μ-records
+at-record c = c .before .before .before .before .before
 
 abbrev counted : tie.After-known-told2 Inv-pins μ-pins Inv-records μ-records → ℕ
 counted c = c .before .count .given .0 .0
 
-head : (c : tie.After-known-told2 Inv-pins μ-pins Inv-records μ-records) → let a = start c .before in
-    headAt (bytes a) (a .records .at) ≡ Pins (counted c)
+abbrev word : tie.After-known-told2 Inv-pins μ-pins Inv-records μ-records → ℕ
+word c = c .before .count .given .0 .1 .0
+
+head : (c : tie.After-known-told2 Inv-pins μ-pins Inv-records μ-records) → let a = at-record c .before in
+    headAt (bytes a) (a .records .at) ≡ Pins (counted c) (word c)
 head c = sym (c .before .before .before .head-at .ensures) ∙ c .before .count .given .1
 
-told : (c : tie.After-known-told2 Inv-pins μ-pins Inv-records μ-records) → let a = start c .before in
-    (counted c ≡ countAt (bytes a) (a .records .at)) × (pastRecord (bytes a) (a .records .at) ≤ length (bytes a))
+told : (c : tie.After-known-told2 Inv-pins μ-pins Inv-records μ-records) → let a = at-record c .before in
+    HeadTold (bytes a) (a .records .at) (counted c) (word c)
 told c = head-told _ _ (head c)
 
 word-at-requires : tie.Need-word-at-requires Inv-pins μ-pins Inv-records μ-records
@@ -73,17 +108,20 @@ word-at-requires-2 c κs = search needs
 cast-gates : tie.Need-cast-gates Inv-pins μ-pins Inv-records μ-records
 cast-gates c = search needs
 
+meaning-table-requires : tie.Need-meaning-table-requires Inv-pins μ-pins Inv-records μ-records
+meaning-table-requires c κs = search needs
+
 records-holds : tie.Need-records-holds Inv-pins μ-pins Inv-records μ-records
-records-holds c = reached-first _ _ (c .word-at2 .ensures)
+records-holds c = reached-first _ _ _ (c .before .word-at2 .ensures)
 
 check-outputs-requires : tie.Need-check-outputs-requires Inv-pins μ-pins Inv-records μ-records
 check-outputs-requires c κs =
-    let a = c .before in
-    let l = reached-last _ _ _ _ _ (a .records .inv) (c .if1 .taken) (a .before .word-at2 .ensures) in
+    let a = c .before .before in
+    let l = reached-last _ _ _ _ _ _ _ (a .records .inv) (c .before .if1 .taken) (gates-are a) in
     (l .0, l .1, a .records .inv .place-high)
 
 head-at-requires : tie.Need-head-at-requires Inv-pins μ-pins Inv-records μ-records
-head-at-requires c κs = search needs
+head-at-requires c κs = (c .before .before .before .meaning-table .ensures, c .before .before .records .inv .place-high)
 
 enum-known-number : tie.Need-enum-known-number Inv-pins μ-pins Inv-records μ-records
 enum-known-number c = search needs
@@ -94,30 +132,39 @@ enum-known-count c = search needs
 add-signal : tie.Need-add-signal Inv-pins μ-pins Inv-records μ-records
 add-signal c = search needs
 
-cast-signal : tie.Need-cast-signal Inv-pins μ-pins Inv-records μ-records
-cast-signal c = search needs
+add-row-at : tie.Need-add-row-at Inv-pins μ-pins Inv-records μ-records
+add-row-at c = omega (arith, told (c .before))
 
-add-below-at-once : tie.Need-add-below-at-once Inv-pins μ-pins Inv-records μ-records
-add-below-at-once c = omega (arith, told c)
+row-at-requires : tie.Need-row-at-requires Inv-pins μ-pins Inv-records μ-records
+unfolding ones tab
+row-at-requires c κs = let t = told (c .before) in (refl, t .count-some, t .count-eight, t .room)
 
-below-at-once-requires : tie.Need-below-at-once-requires Inv-pins μ-pins Inv-records μ-records
-below-at-once-requires c κs = omega (arith, told c)
+cast-passed : tie.Need-cast-passed Inv-pins μ-pins Inv-records μ-records
+cast-passed c = search needs
+
+passed-requires : tie.Need-passed-requires Inv-pins μ-pins Inv-records μ-records
+passed-requires c κs = search needs
 
 pins-holds : tie.Need-pins-holds Inv-pins μ-pins Inv-records μ-records
-pins-holds c =
-    own (start (c .before)) ∙ record-pins _ _ _ _ (head (c .before)) ∙ once-passed _ _ _ _ 8 _ (c .below-at-once .ensures)
+pins-holds c next =
+    let t = c .before .before .before in
+    let k = c .passed .ensures ∙ ap (λ (row : List ℕ). cond (each (λ x. ltb x (signal (at-record t .before))) row) (counted t) 0) (c .before .row-at .ensures) in
+    record-pins _ _ _ _ (head t) ∙ all-passed _ _ _ _ (told t .count-eight) k 8 next
 
 add-place : tie.Need-add-place Inv-pins μ-pins Inv-records μ-records
 add-place c = search needs
 
 mul-place : tie.Need-mul-place Inv-pins μ-pins Inv-records μ-records
-mul-place c = omega (arith, told (c .before .before .before))
+mul-place c = omega (arith, told (c .before .before .before .before .before))
 
 add-place-2 : tie.Need-add-place-2 Inv-pins μ-pins Inv-records μ-records
-add-place-2 c = omega (arith, told (c .before .before .before))
+add-place-2 c = omega (arith, told (c .before .before .before .before .before))
+
+cast-if2 : tie.Need-cast-if2 Inv-pins μ-pins Inv-records μ-records
+cast-if2 c = search needs
 
 word-in-requires : tie.Need-word-in-requires Inv-pins μ-pins Inv-records μ-records
-word-in-requires c κs = omega (arith, told (c .before .before .before))
+word-in-requires c κs = omega (arith, told (c .before .before .before .before .before))
 
 add-k : tie.Need-add-k Inv-pins μ-pins Inv-records μ-records
 add-k c = search needs
@@ -126,19 +173,26 @@ pins-less : tie.Need-pins-less Inv-pins μ-pins Inv-records μ-records
 pins-less c = search needs
 
 pins-again : tie.Need-pins-again Inv-pins μ-pins Inv-records μ-records
-pins-again c = c .before .before .before .pins .inv ∙ words-more _ _ _ _ _ _ _ (c .before .before .pins-test .left) (c .before .word-in .ensures) (c .if2 .left)
+pins-again c next = c .before .before .before .pins .inv next ∙ words-more _ _ _ _ _ _ _ (c .before .before .pins-test .left) (c .before .word-in .ensures) (c .if2 .left)
+
+keep-row-requires : tie.Need-keep-row-requires Inv-pins μ-pins Inv-records μ-records
+keep-row-requires c κs = search needs
+
+-- back from where the row is kept
+abbrev kept-told : tie.After-slice-known3 Inv-pins μ-pins Inv-records μ-records → tie.After-known-told2 Inv-pins μ-pins Inv-records μ-records
+kept-told c = c .before .before .before .before .before .before .before .before .before
 
 add-pins : tie.Need-add-pins Inv-pins μ-pins Inv-records μ-records
-add-pins c = omega (arith, told (c .before .before .before))
+add-pins c = omega (arith, told (kept-told c), at-record (kept-told c) .before .records .inv .pins-high)
 
 add-at : tie.Need-add-at Inv-pins μ-pins Inv-records μ-records
 add-at c = search needs
 
 mul-at : tie.Need-mul-at Inv-pins μ-pins Inv-records μ-records
-mul-at c = omega (arith, told (c .before .before .before))
+mul-at c = omega (arith, told (kept-told c))
 
 add-at-2 : tie.Need-add-at-2 Inv-pins μ-pins Inv-records μ-records
-add-at-2 c = omega (arith, told (c .before .before .before))
+add-at-2 c = omega (arith, told (kept-told c))
 
 add-gate : tie.Need-add-gate Inv-pins μ-pins Inv-records μ-records
 add-gate c = search needs
@@ -148,23 +202,44 @@ records-less c = search needs
 
 records-again : tie.Need-records-again Inv-pins μ-pins Inv-records μ-records
 records-again c =
-    let e = start (c .before .before .before) in
-    let t = told (c .before .before .before) in
-    reached-next _ _ _ _ _ (e .before .records .inv) (more e) _ (t .0) (omega arith) (c .before .pins .inv ∙ words-end _ _ _ _ _ _ _ (c .pins-test .taken))
+    let l = c .before .before .before .before in
+    let t = kept-told c in
+    let e = at-record t in
+    let a = e .before in
+    let row = row-read (bytes a) (a .records .at) (told t .count-is) (told t .word-is) (l .before .before .before .row-at .ensures) in
+    reached-next _ _ _ _ _ _ _ (a .records .inv) (more e) (inputs a) (inputs-are a) (counted t) (told t .count-is) (told t .room)
+    (λ next. l .before .pins .inv next ∙ words-end _ _ _ _ _ _ _ (l .pins-test .taken))
+    _
+    (c .before .before .keep-row .ensures ∙ ap (putAt (a .records .rows) (9 * signal a)) row)
+
+same-length : tie.Need-same-length Inv-pins μ-pins Inv-records μ-records
+same-length c = let a = c .before .before .before .before .before in c .before .before .check-outputs .kept .1 .0 ∙ a .records .inv .same-length
 
 returns : tie.Need-returns Inv-pins μ-pins Inv-records μ-records
 returns c =
-    let a = c .before .before in
-    c .check-outputs .ensures ∙ sym (reached-last _ _ _ _ _ (a .records .inv) (c .before .if1 .taken) (a .before .word-at2 .ensures) .2)
+    let o = c .before .before in
+    let a = o .before .before .before in
+    let l = reached-last _ _ _ _ _ _ _ (a .records .inv) (o .before .before .if1 .taken) (gates-are a) in (
+      o .check-outputs .ensures .0 ∙ sym (l .2),
+      o .check-outputs .ensures .1 ∙ ap₂ (λ (answer : Checked) (rows : List ℕ). withOutputs answer (bytes a) rows) (sym (l .2)) (sym (l .3)),
+    )
+
+same-length-2 : tie.Need-same-length-2 Inv-pins μ-pins Inv-records μ-records
+same-length-2 c = c .before .before .before .before .before .before .records .inv .same-length
 
 returns-2 : tie.Need-returns-2 Inv-pins μ-pins Inv-records μ-records
 returns-2 c =
-    sym
-    (own (c .before .before .before .before)
-    ∙ record-refused _ _ _ _ (sym (c .before .before .before .head-at .ensures) ∙ c .before .number .given .1))
+    let h = c .before .before .before in
+    refused (h .before .before) _ _ (λ next. record-refused _ _ _ next (sym (h .head-at .ensures) ∙ c .before .number .given .1))
+
+same-length-3 : tie.Need-same-length-3 Inv-pins μ-pins Inv-records μ-records
+same-length-3 c = at-record (c .before .before .before .before .before .before .before) .before .records .inv .same-length
 
 returns-3 : tie.Need-returns-3 Inv-pins μ-pins Inv-records μ-records
-returns-3 c = sym (c .before .before .before .pins .inv ∙ words-stop _ _ _ _ _ _ _ (c .before .before .pins-test .left) (c .before .word-in .ensures) (c .if2 .taken))
+returns-3 c =
+    let p = c .before .before .before in
+    refused (at-record (p .before .before .before .before)) _ _
+    (λ next. p .pins .inv next ∙ words-stop _ _ _ _ _ _ _ (c .before .before .pins-test .left) (c .before .word-in .ensures) (c .if2 .taken))
 
 pub check-records-spec : {M : Type 1} → statement M
 check-records-spec =
@@ -178,23 +253,27 @@ check-records-spec =
     cast-inputs
     word-at-requires-2
     cast-gates
+    meaning-table-requires
     records-holds
     check-outputs-requires
     head-at-requires
     enum-known-number
     enum-known-count
     add-signal
-    cast-signal
-    add-below-at-once
-    below-at-once-requires
+    add-row-at
+    row-at-requires
+    cast-passed
+    passed-requires
     pins-holds
     add-place
     mul-place
     add-place-2
+    cast-if2
     word-in-requires
     add-k
     pins-less
     pins-again
+    keep-row-requires
     add-pins
     add-at
     mul-at
@@ -202,6 +281,9 @@ check-records-spec =
     add-gate
     records-less
     records-again
+    same-length
     returns
+    same-length-2
     returns-2
+    same-length-3
     returns-3)

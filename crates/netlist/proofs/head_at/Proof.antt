@@ -1,34 +1,52 @@
 -- `head_at`: the room, the kind, the pin count and the room for the pins in turn. Assumes nothing.
-use Prim.Native.Nat.{_+_, _<_}
+use Prim.Native.Nat.{ℕ, _+_, _*_, _/_, _%_, _≤_, _<_}
 use native.Mathlib.Omega.{arith}
 use mathlib.Core.Path.{_≡_, sym, _∙_, ap}
 use mathlib.Core.Bool.{false}
-use borrow.Author.Needs.{needs}
-use denote.Ref.{now}
+use mathlib.Core.List.{List}
+use lib.ListN.{length, getD}
 use Rattle.words.specs.Words.{outside}
-use Rattle.netlist.specs.declared.Meaning.{Meaning}
+use Rattle.netlist.specs.declared.Head.the-variants.{Pins}
 use Rattle.netlist.specs.Netlist.{kindAt, countAt, noKind, leastPins, mostPins}
-use Rattle.netlist.proofs.Meanings.{most-none, most-some, limits-kind}
+use Rattle.netlist.specs.Meaning.{meaningTable}
+use Rattle.netlist.specs.Reading.{wordOf}
+use Rattle.netlist.proofs.Meanings.{no-kind, word-none, word-some, word-limits, word-gate, word-low}
 use Rattle.netlist.proofs.Heads.{head-bare, head-kind, head-count, head-cut, head-pins}
+use borrow.Author.Needs.{needs}
 use Rattle.netlist.proofs.head_at.Statement.{statement}
 use Rattle.netlist.proofs.head_at.Tie as tie
 
--- back from where the meaning is known to where the record's first two bytes are
-abbrev two : tie.After-struct-known → tie.Else1
-two c = c .before .before .before .before
+-- the record's place and its two bytes
+abbrev start : tie.After-shared-slice-known3 → tie.Start
+start c = c .before .before .before .before
 
-count-byte : (c : tie.After-shared-slice-known2) → let a = c .before .before .before .args in countAt (now (a .s)) (a .at) < 256
+abbrev kind : tie.After-shared-slice-known3 → ℕ
+kind c = kindAt (start c .args .s .now) (start c .args .at)
+
+abbrev count : tie.After-shared-slice-known3 → ℕ
+count c = countAt (start c .args .s .now) (start c .args .at)
+
+count-byte : (c : tie.After-shared-slice-known2) → countAt (c .before .before .before .args .s .now) (c .before .before .before .args .at) < 256
 count-byte c = omega (arith, c .shared-slice-known2 .given (c .before .before .before .args .at + 1))
 
-known : (c : tie.Else2) → let a = two (c .before) .before .before .args in noKind (kindAt (now (a .s)) (a .at)) ≡ false
-known c = most-some _ (λ e. c .if2 .left (ap (λ (m : Meaning). m .most) (c .before .before .meaning-of .ensures) ∙ e))
+kind-byte : (c : tie.After-shared-slice-known3) → kind c < 256
+kind-byte c = omega (arith, c .shared-slice-known3 .given (start c .args .at))
 
-judged : (c : tie.After-is-outside) → let a = two (c .before .before) .before .before .args in let kind = kindAt (now (a .s)) (a .at) in
-    outside (leastPins kind) (mostPins kind) (countAt (now (a .s)) (a .at)) ≡ c .is-outside .result
+-- the word that was lent for the kind byte
+lent : (c : tie.Else2) → getD (start (c .before) .args .meanings .now) (kind (c .before)) 0 ≡ getD meaningTable (kind (c .before)) 0
+lent c = ap (λ (t : List ℕ). getD t (kind (c .before)) 0) (start (c .before) .pre .0)
+
+known : (c : tie.Else3) → noKind (kind (c .before .before .before)) ≡ false
+known c = let e = lent (c .before .before) in word-some _ (c .before .before .if2 .left) (omega arith)
+
+judged : (c : tie.After-is-outside) → let a = c .before .before .before .before in
+    outside (leastPins (kind a)) (mostPins (kind a)) (count a) ≡ c .is-outside .result
 judged c =
-    let a = two (c .before .before) .before .before .args in
-    let count = countAt (now (a .s)) (a .at) in
-    sym (c .is-outside .ensures ∙ ap (λ (m : Meaning). outside (m .least) (m .most) count) (c .before .before .before .meaning-of .ensures) ∙ limits-kind _ count (known (c .before)))
+    let two = c .before .before .before in
+    sym (c .is-outside .ensures ∙ ap (λ (m : ℕ). outside (m / 16 % 16) (m / 256) (count (two .before))) (lent two) ∙ word-limits _ (two .if2 .left) _ (known (c .before)))
+
+two : (c : tie.After-shared-slice-known3) → start c .args .at + 2 ≤ length (start c .args .s .now)
+two c = c .before .before .if1 .left
 
 add-if1 : tie.Need-add-if1
 add-if1 c = search needs
@@ -45,41 +63,70 @@ shared-slice-read-count c = search needs
 cast-count : tie.Need-cast-count
 cast-count c = omega (arith, count-byte c)
 
-shared-slice-read-meaning-of : tie.Need-shared-slice-read-meaning-of
-shared-slice-read-meaning-of c = search needs
+shared-slice-read-kind : tie.Need-shared-slice-read-kind
+shared-slice-read-kind c = search needs
 
-meaning-of-requires : tie.Need-meaning-of-requires
-meaning-of-requires c κs = search needs
+cast-kind : tie.Need-cast-kind
+cast-kind c = omega (arith, kind-byte c)
 
 returns-2 : tie.Need-returns-2
-returns-2 c =
-    let most = ap (λ (m : Meaning). m .most) (c .before .before .meaning-of .ensures) in
-    head-kind _ _ (two (c .before) .if1 .left) (most-none _ (sym most ∙ c .if2 .taken))
+returns-2 c = head-kind _ _ (two (c .before)) (no-kind _ (c .if2 .taken))
+
+mul-meaning : tie.Need-mul-meaning
+mul-meaning c = search needs
+
+element-copy-out-meaning : tie.Need-element-copy-out-meaning
+element-copy-out-meaning c = search needs
+
+returns-3 : tie.Need-returns-3
+returns-3 c = let e = lent (c .before .before) in head-kind _ _ (two (c .before .before .before)) (word-none _ (c .before .before .if2 .left) (omega arith))
+
+cast-is-outside : tie.Need-cast-is-outside
+cast-is-outside c = search needs
+
+cast-is-outside-2 : tie.Need-cast-is-outside-2
+cast-is-outside-2 c = let two = c .before .before in omega (arith, ap (λ (m : ℕ). m / 256) (lent two), word-low (kind (two .before)) (two .if2 .left))
 
 is-outside-requires : tie.Need-is-outside-requires
 is-outside-requires c κs = search needs
 
-returns-3 : tie.Need-returns-3
-returns-3 c = head-count _ _ (two (c .before .before .before) .if1 .left) (known (c .before .before)) (judged (c .before) ∙ c .if3 .taken)
-
-add-if4 : tie.Need-add-if4
-add-if4 c = search needs
-
-mul-if4 : tie.Need-mul-if4
-mul-if4 c = omega (arith, count-byte (c .before .before .before .before .before .before))
-
-add-if4-2 : tie.Need-add-if4-2
-add-if4-2 c = omega (arith, count-byte (c .before .before .before .before .before .before))
-
 returns-4 : tie.Need-returns-4
 returns-4 c =
-    let o = c .before .before in
-    head-cut _ _ (two (o .before .before) .if1 .left) (known (o .before)) (judged o ∙ c .before .if3 .left) (c .if4 .taken)
+    let o = c .before in
+    head-count _ _ (two (o .before .before .before .before)) (known (o .before)) (judged o ∙ c .if4 .taken)
+
+add-if5 : tie.Need-add-if5
+add-if5 c = search needs
+
+mul-if5 : tie.Need-mul-if5
+mul-if5 c = omega (arith, count-byte (c .before .before .before .before .before .before))
+
+add-if5-2 : tie.Need-add-if5-2
+add-if5-2 c = omega (arith, count-byte (c .before .before .before .before .before .before))
 
 returns-5 : tie.Need-returns-5
 returns-5 c =
     let o = c .before .before in
-    head-pins _ _ (two (o .before .before) .if1 .left) (known (o .before)) (judged o ∙ c .before .if3 .left) (c .if4 .left)
+    head-cut _ _ (two (o .before .before .before .before)) (known (o .before)) (judged o ∙ c .before .if4 .left) (c .if5 .taken)
+
+cast-t16 : tie.Need-cast-t16
+cast-t16 c = omega (arith, count-byte (c .before .before .before .before .before .before .before))
+
+mul-t18 : tie.Need-mul-t18
+mul-t18 c = omega (arith, count-byte (c .before .before .before .before .before .before .before))
+
+add-t22 : tie.Need-add-t22
+add-t22 c = omega (arith, count-byte (c .before .before .before .before .before .before .before))
+
+returns-6 : tie.Need-returns-6
+unfolding wordOf
+returns-6 c =
+    let o = c .before .before in
+    let t = o .before .before .before in
+    let a = t .before in
+    let word : getD (start a .args .meanings .now) (kind a) 0 % 4 + 4 * count a ≡ wordOf (start a .args .s .now) (start a .args .at) =
+    ap (λ (m : ℕ). m % 4 + 4 * count a) (lent t) ∙ word-gate (kind a) (t .if2 .left) (count a) in
+    ap (Pins (count a)) word ∙ head-pins _ _ (two a) (known (o .before)) (judged o ∙ c .before .if4 .left) (c .if5 .left)
 
 pub head-at-spec : {M : Type 1} → statement M
 head-at-spec =
@@ -90,13 +137,21 @@ head-at-spec =
     add-second
     shared-slice-read-count
     cast-count
-    shared-slice-read-meaning-of
-    meaning-of-requires
+    shared-slice-read-kind
+    cast-kind
     returns-2
-    is-outside-requires
+    mul-meaning
+    element-copy-out-meaning
     returns-3
-    add-if4
-    mul-if4
-    add-if4-2
+    cast-is-outside
+    cast-is-outside-2
+    is-outside-requires
     returns-4
-    returns-5)
+    add-if5
+    mul-if5
+    add-if5-2
+    returns-5
+    cast-t16
+    mul-t18
+    add-t22
+    returns-6)

@@ -1,51 +1,54 @@
 -- `report::put_verdict` meets its contract: the words of its line are appended one after the other. Assumes nothing.
-use mathlib.Core.List.{append-assoc}
-use native.Mathlib.Omega.{arith}
+use mathlib.Core.List.{[], _∷_, append-assoc}
 use borrow.Author.Needs.{needs}
-use Rattle.report.specs.Text.{line, verdictLine}
-use Rattle.report.proofs.Appending.{_then_, line-length}
+use Rattle.kung.specs.Class.{ofCode, nameOf}
+use Rattle.report.specs.Text.{decimal, line, verdictWord, verdictLine}
+use Rattle.report.proofs.Appending.{_then_, line-length, Fits, fits-word, _past_, fits-last}
 use Rattle.report.proofs.put_verdict.Statement.{statement}
 use Rattle.report.proofs.put_verdict.Tie as tie
 
--- the entry, seen from after each call
-abbrev entry·put-number : tie.After-put-number → tie.Start
-entry·put-number c = c .before .before .before
-
-abbrev entry·put-number2 : tie.After-put-number2 → tie.Start
-entry·put-number2 c = entry·put-number (c .before .before .before .before)
-
-abbrev entry·put-class : tie.After-put-class → tie.Start
-entry·put-class c = entry·put-number2 (c .before .before .before .before)
-
-abbrev entry·put-judgement : tie.After-put-judgement → tie.Start
-entry·put-judgement c = entry·put-class (c .before .before .before .before)
-
-abbrev entry·put-number3 : tie.After-put-number3 → tie.Start
-entry·put-number3 c = entry·put-judgement (c .before .before .before .before)
+-- the line fits at the entry
+fits : (c : tie.Start) → Fits (c .args .buffer .now) (c .args .at) (decimal (c .args .line .change)) (decimal (c .args .line .output) ∷ nameOf (ofCode (c .args .line .class)) ∷ verdictWord (c .args .line .clean) ∷ decimal (c .args .line .gates) ∷ decimal (c .args .line .pins) ∷ [])
+unfolding verdictLine
+fits c = record { room = rw line-length at (c .pre) }
 
 put-number-requires : tie.Need-put-number-requires
-unfolding verdictLine
-put-number-requires c κs = omega (arith, rw line-length at (c .before .before .pre))
+put-number-requires c κs = fits-word (fits (c .before .before))
 
 put-number-requires-2 : tie.Need-put-number-requires-2
-unfolding verdictLine
-put-number-requires-2 c κs = omega (arith, rw line-length at (entry·put-number (c .before .before .before) .pre))
+put-number-requires-2 c κs =
+    let c1 = c .before .before .before in
+    fits-word (fits (c1 .before .before .before) past c1 .put-number .ensures)
 
 put-class-requires : tie.Need-put-class-requires
-unfolding verdictLine
-put-class-requires c κs = omega (arith, rw line-length at (entry·put-number2 (c .before .before .before) .pre))
+put-class-requires c κs =
+    let c2 = c .before .before .before in
+    let c1 = c2 .before .before .before .before in
+    fits-word (fits (c1 .before .before .before) past c1 .put-number .ensures past c2 .put-number2 .ensures)
 
 put-judgement-requires : tie.Need-put-judgement-requires
-unfolding verdictLine
-put-judgement-requires c κs = omega (arith, rw line-length at (entry·put-class (c .before .before .before) .pre))
+put-judgement-requires c κs =
+    let c3 = c .before .before .before in
+    let c2 = c3 .before .before .before .before in
+    let c1 = c2 .before .before .before .before in
+    fits-word (fits (c1 .before .before .before) past c1 .put-number .ensures past c2 .put-number2 .ensures past c3 .put-class .ensures)
 
 put-number-requires-3 : tie.Need-put-number-requires-3
-unfolding verdictLine
-put-number-requires-3 c κs = omega (arith, rw line-length at (entry·put-judgement (c .before .before .before) .pre))
+put-number-requires-3 c κs =
+    let c4 = c .before .before .before in
+    let c3 = c4 .before .before .before .before in
+    let c2 = c3 .before .before .before .before in
+    let c1 = c2 .before .before .before .before in
+    fits-word (fits (c1 .before .before .before) past c1 .put-number .ensures past c2 .put-number2 .ensures past c3 .put-class .ensures past c4 .put-judgement .ensures)
 
 put-number-requires-4 : tie.Need-put-number-requires-4
-unfolding verdictLine
-put-number-requires-4 c κs = omega (arith, rw line-length at (entry·put-number3 (c .before .before .before) .pre))
+put-number-requires-4 c κs =
+    let c5 = c .before .before .before in
+    let c4 = c5 .before .before .before .before in
+    let c3 = c4 .before .before .before .before in
+    let c2 = c3 .before .before .before .before in
+    let c1 = c2 .before .before .before .before in
+    fits-last (fits (c1 .before .before .before) past c1 .put-number .ensures past c2 .put-number2 .ensures past c3 .put-class .ensures past c4 .put-judgement .ensures past c5 .put-number3 .ensures)
 
 same-length : tie.Need-same-length
 same-length c = search needs

@@ -1,18 +1,19 @@
--- `tables::gate_table` meets its contract: antt computes a kind's row by joining in one class after the other. Assumes nothing.
+-- `tables::gate_table` meets its contract: antt computes a gate's row by joining in one class after the other. Assumes nothing.
 use mathlib.Core.Path.{_≡_, refl, sym, _∙_, ap}
 use mathlib.Core.Bool.{Bool, true, false, _||_}
 use Prim.Native.Nat.{ℕ, _+_, _*_, _/_, _%_, _^_, _<_}
 use native.Mathlib.Omega.{arith}
 use lib.Bits.{or-shifted-r}
+use lib.Dec.{eqb}
 use lib.ListN.{getD}
 use Rattle.kung.specs.Class.{Class, c0, code, classes, ofCode, same}
-use Rattle.kung.specs.Rule.{each, some, andAll, orAll, Kind, kindOf, gateClass}
-use Rattle.kung.specs.Operation.{opOf, inverts, invertIf, join, joinAll}
+use Rattle.kung.specs.Rule.{each, some, andAll, orAll}
+use Rattle.kung.specs.Operation.{opAt, invertIf, join, joinAll}
 use Rattle.kung.specs.Sets.{has}
 use Rattle.kung.specs.Members.{keep, members}
-use Rattle.kung.specs.Tables.{gateRule, gateTable}
+use Rattle.kung.specs.Gates.{gateAt, gateRule, gateTable}
 use Rattle.kung.proofs.Finite.{ofCode-code}
-use Rattle.kung.proofs.Laws.{invert-invert, gateClass-op}
+use Rattle.kung.proofs.Laws.{invert-invert}
 use Rattle.kung.proofs.SetLaws.{has-setOf, join-more}
 use Rattle.kung.proofs.Unions.{has-or, one-class}
 use Rattle.tables.proofs.Doubled.{Doubles, doubled, rows, tab-rows}
@@ -26,41 +27,41 @@ has-more j m low h x =
     ap (λ (n : ℕ). has n x) (e ∙ sym (or-shifted-r 1 j m h)) ∙ has-or m (1 * 2 ^ j) x
     ∙ ap (λ b. has m x || b) (ap (λ (n : ℕ). has n x) (omega arith ∙ one-class j low) ∙ has-setOf (same (getD classes j c0)) x)
 
-rowRule : Kind → ℕ → ℕ
-rowRule d m = code (gateClass d (members m))
+rowRule : ℕ → ℕ → ℕ
+rowRule g m = code (gateAt g (members m))
 
-step : Kind → ℕ → ℕ → ℕ
-step d j c = code (invertIf (inverts d) (join (opOf d) (getD classes j c0) (invertIf (inverts d) (ofCode c))))
+abbrev turn : ℕ → Class → Class
+turn g = invertIf (eqb (g / 2 % 2) 1)
 
-steps : (d : Kind) → Doubles 8 (step d) (rowRule d)
-unfolding rowRule step
-steps d j m low h =
-    ap code (gateClass-op d (members (2 ^ j + m)))
-    ∙ ap (λ k. code (invertIf (inverts d) k)) (join-more (opOf d) m (2 ^ j + m) (getD classes j c0) (has-more j m low h))
-    ∙ ap (λ k. code (invertIf (inverts d) (join (opOf d) (getD classes j c0) k))) (sym back)
+step : ℕ → ℕ → ℕ → ℕ
+step g j c = code (turn g (join (opAt g) (getD classes j c0) (turn g (ofCode c))))
+
+steps : (g : ℕ) → Doubles 8 (step g) (rowRule g)
+unfolding rowRule step gateAt
+steps g j m low h =
+    ap (λ k. code (turn g k)) (join-more (opAt g) m (2 ^ j + m) (getD classes j c0) (has-more j m low h))
+    ∙ ap (λ k. code (turn g (join (opAt g) (getD classes j c0) k))) (sym back)
   where
     again : (b : Bool) (k : Class) → invertIf b (invertIf b k) ≡ k
     again true k = invert-invert k
     again false k = refl
 
-    back : invertIf (inverts d) (ofCode (code (gateClass d (members m)))) ≡ joinAll (opOf d) (members m)
-    back =
-        ap (invertIf (inverts d)) (ofCode-code (gateClass d (members m)) ∙ gateClass-op d (members m))
-        ∙ again (inverts d) (joinAll (opOf d) (members m))
+    back : turn g (ofCode (code (turn g (joinAll (opAt g) (members m))))) ≡ joinAll (opAt g) (members m)
+    back = ap (turn g) (ofCode-code (turn g (joinAll (opAt g) (members m)))) ∙ again (eqb (g / 2 % 2) 1) (joinAll (opAt g) (members m))
 
-in-row : (r m : ℕ) → m < 256 → gateRule (r * 256 + m) ≡ rowRule (kindOf r) m
+in-row : (r m : ℕ) → m < 256 → gateRule (r * 256 + m) ≡ rowRule r m
 unfolding gateRule rowRule
 in-row r m h =
     let a : (r * 256 + m) / 256 ≡ r = omega arith in
     let b : (r * 256 + m) % 256 ≡ m = omega arith in
-    λ i. code (gateClass (kindOf (a i)) (members (b i)))
+    λ i. code (gateAt (a i) (members (b i)))
 
-by-rows : gateTable ≡ rows (λ r. doubled (step (kindOf r)) (rowRule (kindOf r) 0) 8) 0 8
+by-rows : gateTable ≡ rows (λ r. doubled (step r) (rowRule r 0) 8) 0 4
 unfolding gateTable
-by-rows = tab-rows 8 gateRule (λ r. rowRule (kindOf r)) (λ r. step (kindOf r)) in-row (λ r. steps (kindOf r)) 8 0
+by-rows = tab-rows 8 gateRule rowRule step in-row steps 4 0
 
 returns : tie.Need-returns
-unfolding rows doubled step rowRule gateClass kindOf join joinAll andAll orAll each some has keep ofCode
+unfolding rows doubled step rowRule gateAt join joinAll andAll orAll each some has keep ofCode
 returns c = refl ∙ sym by-rows
 
 pub gate-table-spec : {M : Type 1} → statement M

@@ -1,0 +1,36 @@
+-- What decoding an accepted netlist and list in lent room gives: the one hypothesis of the layers above. Assumes nothing.
+use Prim.Native.Nat.{ℕ, _+_, _≤_}
+use native.Mathlib.Omega.{arith}
+use mathlib.Core.Path.{_≡_, sym, subst}
+use mathlib.Core.List.{List}
+use lib.ListN.{length}
+use Rattle.rows.specs.Lent.{Room}
+use Rattle.netlist.specs.Netlist.{inputsOf, gatesOf}
+use Rattle.netlist.specs.Formed.{Formed}
+use Rattle.netlist.specs.Decoded.{Decoded, decoded}
+use Rattle.netlist.proofs.Accepted.{formed}
+use Rattle.netlist.proofs.Decoded.{decoded-rows}
+use Rattle.changes.specs.declared.Task.{Task}
+use Rattle.changes.specs.declared.Listed.the-variants.{Accepted}
+use Rattle.changes.specs.Lent.{Accepts, signalsOf}
+use Rattle.changes.specs.Refusals.{listChecked}
+use Rattle.changes.proofs.Accepted.{listed}
+
+-- an accepted card and its list, in room for its signals
+module _ {task : Task} (n l old bytes : List ℕ) (e : listChecked n l ≡ Accepted task) (room : Room (inputsOf n + gatesOf n) old bytes) where
+  shaped : Formed n (task .shape)
+  shaped = formed n (listed n l e .netlist-accepted)
+
+  -- a byte for each signal
+  pub in-room : signalsOf (task .shape) ≤ length bytes
+  in-room = let f = shaped in omega (arith, room .told (omega arith))
+
+  -- what the check decodes into the lent numbers
+  pub accepts : (rows : List ℕ) → rows ≡ decoded n old → Accepts n l rows task
+  accepts rows is =
+      record {
+        accepted = e;
+        decoded =
+            subst (Decoded n) (sym is)
+            (decoded-rows n old (listed n l e .netlist-accepted) (omega (arith, in-room, room .rowed, shaped .outputs-high)));
+      }

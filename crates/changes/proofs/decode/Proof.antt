@@ -1,0 +1,74 @@
+-- `changes::decode` meets its contract: it refuses what the netlist's check refuses, and hands the rest on. Assumes nothing.
+use Prim.Native.Nat.{_≤_}
+use mathlib.Core.Path.{_∙_, sym}
+use native.Mathlib.Omega.{arith}
+use borrow.Author.Needs.{needs}
+use Rattle.netlist.proofs.Accepted.{formed}
+use Rattle.changes.proofs.Refusals.{list-refused, list-accepted}
+use Rattle.changes.proofs.decode.Statement.{statement}
+use Rattle.changes.proofs.decode.Tie as tie
+
+-- an accepted netlist's inputs
+inputs-in : (c : tie.After-shape) → (1 ≤ c .shape .given .0 .0 .inputs) × (c .shape .given .0 .0 .inputs ≤ 256)
+inputs-in c = let f = formed _ (sym (c .before .before .before .before .decode .ensures .0) ∙ c .shape .given .1) in (f .inputs-low, f .inputs-high)
+
+decode-requires : tie.Need-decode-requires
+decode-requires c κs = search needs
+
+enum-known-number : tie.Need-enum-known-number
+enum-known-number c = search needs
+
+enum-known-shape : tie.Need-enum-known-shape
+enum-known-shape c = search needs
+
+tie-requires : tie.Need-tie-requires
+tie-requires c κs = search needs
+
+word-at-requires : tie.Need-word-at-requires
+word-at-requires c κs = search needs
+
+cast-t15 : tie.Need-cast-t15
+cast-t15 c = search needs
+
+add-t16 : tie.Need-add-t16
+add-t16 c = omega (arith, inputs-in (c .before .before .before))
+
+check-list-requires : tie.Need-check-list-requires
+check-list-requires c κs = inputs-in (c .before .before .before)
+
+same-length : tie.Need-same-length
+same-length c = search needs
+
+returns : tie.Need-returns
+returns c =
+    let d = c .before .before .before .before .before in
+    (sym (list-refused _ _ _ _ (sym (d .decode .ensures .0) ∙ c .before .number .given .1)), d .decode .ensures .1)
+
+same-length-2 : tie.Need-same-length-2
+same-length-2 c = search needs
+
+returns-2 : tie.Need-returns-2
+returns-2 c =
+    let s = c .before .before .before .before in
+    let d = s .before .before .before .before in (
+      c .check-list .ensures
+          ∙ sym (list-accepted _ _ _ _ _ (sym (d .decode .ensures .0) ∙ s .shape .given .1) (c .before .before .tie .ensures) (c .before .word-at .ensures)),
+      d .decode .ensures .1,
+    )
+
+pub decode-spec : {M : Type 1} → statement M
+decode-spec =
+    tie.close
+    (tie.spec
+    decode-requires
+    enum-known-number
+    enum-known-shape
+    tie-requires
+    word-at-requires
+    cast-t15
+    add-t16
+    check-list-requires
+    same-length
+    returns
+    same-length-2
+    returns-2)

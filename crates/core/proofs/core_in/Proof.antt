@@ -1,0 +1,223 @@
+-- `core::core_in` meets its contract, case by case: the inputs are known, the gates are searched. Assumes nothing.
+use Prim.Native.Nat.{ℕ, _≤_, _<_}
+use native.Mathlib.Omega.{arith}
+use mathlib.Core.Path.{_≡_, _∙_, sym, ap, ap₂}
+use mathlib.Core.List.{List}
+use lib.ListN.{length, take, drop}
+use Rattle.netlist.specs.Netlist.{inputsOf, gatesOf, outputAt}
+use Rattle.changes.specs.declared.Task.{Task}
+use Rattle.changes.specs.declared.Listed.the-variants.{Accepted}
+use Rattle.changes.specs.Changes.{widthOf, inputClassAt, sourcesOf}
+use Rattle.changes.specs.Lent.{Accepts, signalsOf}
+use Rattle.changes.specs.Refusals.{listChecked}
+use Rattle.changes.proofs.Rooms.{in-room, accepts}
+use Rattle.search.specs.Search as search
+use Rattle.visit.specs.Found.{foundOf}
+use Rattle.visit.specs.Lent.{inputsKnown}
+use Rattle.core.specs.Core.{searchOf}
+use Rattle.core.specs.Codes.{guardedFound}
+use Rattle.core.proofs.Entry.{list-formed, card-formed, known-is, known-all, ready, output-is, output-below, rows-long, search-is, clean-set}
+use Rattle.core.proofs.Entry.{guard-is, refused-list, refused-change, refused-output, answers}
+use borrow.Author.Needs.{needs}
+use Rattle.core.proofs.core_in.Statement.{statement}
+use Rattle.core.proofs.core_in.Tie as tie
+
+-- the list is accepted, with what the match binds
+module _ (c : tie.After-task) where
+  abbrev begun : tie.Start
+  begun = c .before .before .before .before .before .before .before .before .before .before .before
+
+  abbrev netlist : List ℕ
+  netlist = begun .args .netlist .now
+
+  abbrev list : List ℕ
+  list = begun .args .list .now
+
+  abbrev rows : List ℕ
+  rows = c .before .before .before .before .decode .last .1 .1 .0
+
+  abbrev task : Task
+  task = c .task .given .0 .0
+
+  accepted : listChecked netlist list ≡ Accepted task
+  accepted = sym (c .before .before .before .before .decode .ensures .0) ∙ c .task .given .1
+
+  given : Accepts netlist list rows task
+  given = accepts netlist list (begun .args .rows .now) (begun .args .known .now) accepted (begun .pre .room) rows (c .before .before .before .before .decode .ensures .1)
+
+  room : signalsOf (task .shape) ≤ length (begun .args .known .now)
+  room = in-room netlist list (begun .args .rows .now) (begun .args .known .now) accepted (begun .pre .room)
+
+-- what is lent as known
+module _ (c : tie.After-fill-inputs) where
+  abbrev bound : tie.After-task
+  bound = c .before .before .before .before .before .before .before .before .before .before
+
+  abbrev lent : List ℕ
+  lent = take (signalsOf (task bound .shape)) (c .fill-inputs .last .1 .1 .1 .0)
+
+  known : lent ≡ inputsKnown (inputsOf (netlist bound)) (gatesOf (netlist bound)) (inputClassAt (list bound) (widthOf (inputsOf (netlist bound))) (begun bound .args .change))
+  known =
+      known-is (netlist bound) (list bound) (rows bound) (task bound) (given bound) (begun bound .args .change) _ _
+      (ap (drop (task bound .shape .inputs)) (begun bound .pre .none-known)) (room bound) (c .fill-inputs .ensures)
+
+  all-known : length lent ≡ signalsOf (task bound .shape)
+  all-known = ap length known ∙ known-all (netlist bound) (list bound) (rows bound) (task bound) (given bound) (begun bound .args .change)
+
+-- the signal of the output
+module _ (c : tie.After-output-of) where
+  abbrev filled : tie.After-fill-inputs
+  filled = c .before .before .before .before .before
+
+  abbrev output : ℕ
+  output = begun (bound filled) .args .output
+
+  inside : output < task (bound filled) .shape .outputs
+  inside = filled .before .before .before .before .if2 .left
+
+  signal : c .output-of .result ≡ outputAt (netlist (bound filled)) output
+  signal =
+      let k = bound filled in
+      c .output-of .ensures ∙ output-is (netlist k) (list k) (rows k) (task k) (given k) (begun k .args .change) output inside
+
+  below : c .output-of .result < signalsOf (task (bound filled) .shape)
+  below =
+      let k = bound filled in
+      omega (arith, c .output-of .ensures, output-below (netlist k) (list k) (rows k) (task k) (given k) (begun k .args .change) output inside)
+
+decode-requires : tie.Need-decode-requires
+decode-requires c κs = search needs
+
+enum-known-number : tie.Need-enum-known-number
+enum-known-number c = search needs
+
+enum-known-task : tie.Need-enum-known-task
+enum-known-task c = search needs
+
+same-length : tie.Need-same-length
+same-length c = search needs
+
+returns : tie.Need-returns
+returns c = refused-change _ _ _ _ (accepted (c .before .before .before)) (c .if1 .taken)
+
+same-length-2 : tie.Need-same-length-2
+same-length-2 c = search needs
+
+returns-2 : tie.Need-returns-2
+returns-2 c = refused-output _ _ _ _ (accepted (c .before .before .before .before .before .before)) (c .before .before .before .if1 .left) (c .if2 .taken)
+
+images-requires : tie.Need-images-requires
+images-requires c κs = search needs
+
+lookup-requires : tie.Need-lookup-requires
+lookup-requires c κs = search needs
+
+fill-inputs-requires : tie.Need-fill-inputs-requires
+fill-inputs-requires c κs =
+    let k = c .before .before .before .before .before .before .before .before .before in
+    let f = list-formed (netlist k) (list k) (rows k) (task k) (given k) (begun k .args .change) in
+    (f .width-high, omega (arith, f .changes-high, c .before .before .before .before .before .before .if1 .left), omega (arith, room k))
+
+add-signals : tie.Need-add-signals
+add-signals c =
+    let k = bound (c .before .before .before) in
+    let f = card-formed (netlist k) (list k) (rows k) (task k) (given k) (begun k .args .change) in
+    omega (arith, f .inputs-high, f .gates-high)
+
+output-of-requires : tie.Need-output-of-requires
+output-of-requires c κs =
+    let f = c .before .before .before .before in
+    let k = bound f in
+    omega (arith, rows-long (netlist k) (list k) (rows k) (task k) (given k) (begun k .args .change), f .before .before .before .before .if2 .left)
+
+cast-s : tie.Need-cast-s
+cast-s c = search needs
+
+slice-reshare-prefix-find : tie.Need-slice-reshare-prefix-find
+slice-reshare-prefix-find c =
+    let f = c .before .before .before .before .before .before .before .before in
+    omega (arith, room (bound f), f .fill-inputs .kept .1 .1 .1 .0)
+
+slice-aggregate-find : tie.Need-slice-aggregate-find
+slice-aggregate-find c = sym (all-known (c .before .before .before .before .before .before .before .before .before))
+
+find-requires : tie.Need-find-requires
+find-requires c κs =
+    let o = c .before .before .before .before .before in
+    let f = filled o in
+    let k = bound f in (
+      ready (netlist k) (list k) (rows k) (task k) (given k) (begun k .args .change) (f .before .before .before .images .ensures) (f .before .before .lookup .ensures) _ (known f),
+      (omega (arith, below o, all-known f), omega (arith, below o, room k, begun k .pre .celled)),
+    )
+
+guard-requires : tie.Need-guard-requires
+guard-requires c κs = search needs
+
+same-length-3 : tie.Need-same-length-3
+same-length-3 c = search needs
+
+returns-3 : tie.Need-returns-3
+returns-3 c = refused-list _ _ _ _ _ _ (sym (c .before .before .before .before .before .decode .ensures .0) ∙ c .before .number .given .1)
+
+same-length-4 : tie.Need-same-length-4
+same-length-4 c =
+    let k = bound (filled (c .before .before .before .before .before .before .before .before .before)) in
+    k .before .before .before .before .decode .kept .1 .1 .0
+
+same-length-5 : tie.Need-same-length-5
+same-length-5 c = search needs
+
+same-length-6 : tie.Need-same-length-6
+same-length-6 c = search needs
+
+-- the search is that of the definition
+found : (c : tie.After-find) → let o = c .before .before .before .before .before .before in
+    let k = bound (filled o) in
+    c .find .result ≡ foundOf (searchOf (netlist k) (list k) (begun k .args .change) (output o))
+unfolding searchOf
+found c =
+    let o = c .before .before .before .before .before .before in
+    let k = bound (filled o) in
+    c .find .ensures .0
+    ∙ ap foundOf
+    (search-is (netlist k) (list k) (rows k) (task k) (given k) (begun k .args .change) _ (known (filled o)) 15 _
+    ∙ ap₂ (search.search (sourcesOf (netlist k) (list k) (begun k .args .change))) (sym clean-set) (signal o))
+
+returns-4 : tie.Need-returns-4
+returns-4 c =
+    let f = c .before .before .before in
+    let o = f .before .before .before .before .before .before in
+    let k = bound (filled o) in
+    let t = begun k .args .change in
+    c .guard .ensures
+    ∙ ap (guardedFound (task k .shape .pins)) (found f)
+    ∙ guard-is (task k .shape .pins) (searchOf (netlist k) (list k) t (output o))
+    ∙ answers (netlist k) (list k) t (output o) (accepted k) (filled o .before .before .before .before .before .before .before .if1 .left) (inside o)
+
+pub core-in-spec : {M : Type 1} → statement M
+core-in-spec =
+    tie.close
+    (tie.spec
+    decode-requires
+    enum-known-number
+    enum-known-task
+    same-length
+    returns
+    same-length-2
+    returns-2
+    images-requires
+    lookup-requires
+    fill-inputs-requires
+    add-signals
+    output-of-requires
+    cast-s
+    slice-reshare-prefix-find
+    slice-aggregate-find
+    find-requires
+    guard-requires
+    same-length-3
+    returns-3
+    same-length-4
+    same-length-5
+    same-length-6
+    returns-4)

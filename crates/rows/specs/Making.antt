@@ -1,0 +1,25 @@
+-- How rows are made: a record's pins read as eight numbers, and numbers written where they have room.
+use Prim.Native.Nat.{ℕ, _+_, _-_, _*_}
+use mathlib.Core.Bool.{cond}
+use mathlib.Core.List.{List, _++_}
+use lib.Dec.{ltb}
+use lib.ListN.{length, take, drop}
+use Rattle.kung.specs.Sets.{bit}
+use Rattle.kung.specs.Tables.{tab}
+use Rattle.words.specs.Words.{wordAt}
+
+-- pin k of so many that stand from a place on: past the last it is the last
+unfoldable pub rowPin : List ℕ → (at count k : ℕ) → ℕ
+rowPin s at count k = cond (ltb k count) (wordAt s (at + 2 * k)) (wordAt s (at + 2 * (count - 1)))
+
+-- the eight pins of a row, the last repeated
+unfoldable pub rowAt : List ℕ → (at count : ℕ) → List ℕ
+rowAt s at count = tab (rowPin s at count) 0 8
+
+-- eight 1 and eight 0: of the eight from 8 - count on, the first `count` are 1
+unfoldable pub ones : List ℕ
+ones = tab (λ i. bit (ltb i 8)) 0 16
+
+-- numbers written from a place on, where they have room; else nothing is
+unfoldable pub putAt : List ℕ → (at : ℕ) → List ℕ → List ℕ
+putAt rows at xs = cond (ltb (length rows) (at + length xs)) rows (take at rows ++ (xs ++ drop (at + length xs) rows))
