@@ -12,8 +12,8 @@ use lib.Seq.{drop-at}
 use Rattle.kung.specs.Class.{Class}
 use Rattle.kung.specs.Rule.{some}
 use Rattle.kung.specs.Sets.{bit, cleanSet}
-use Rattle.kung.specs.Tables.{tab, imageTable}
-use Rattle.kung.specs.Lookup.{lookupTable}
+use Rattle.kung.specs.Tables.{tab}
+use Rattle.kung.specs.Lookup.{searchTable}
 use Rattle.circuit.specs.Circuit.{Card}
 use Rattle.netlist.specs.Netlist.{inputsOf, gatesOf, outputsOf, outputAt, cardOf}
 use Rattle.netlist.specs.declared.Shape.{Shape}
@@ -43,7 +43,7 @@ use Rattle.forward.specs.Forward.{constantsIn, touchedIn, outputSearch, visited
 use Rattle.batch.specs.declared.Analysis.{Analysis}
 use Rattle.batch.specs.declared.Analysis.the-variants.{Full, Forward, Core}
 use Rattle.batch.specs.Batch.{coreBytes, coreSum, fullOf, forwardOf, coreOf}
-use Rattle.batch.specs.Lent.{CellRoom, methodOf, widthFor}
+use Rattle.batch.specs.Lent.{KnownRoom, methodOf, widthFor}
 use Rattle.batch.proofs.Rows.{Regular}
 
 -- numbers of at most b each
@@ -135,17 +135,17 @@ module _ {task : Task} (n l : List ℕ) (accepted : listChecked n l ≡ Accepted
       )
 
 -- filling the inputs of the next change leaves CORE its room: only their bytes are written
-pub room-next : {shape : Shape} {old cells : List ℕ} → CellRoom old cells shape → (l : List ℕ) (w t : ℕ) (filled after : List ℕ)
-    → filled ≡ inputCodes l w t (shape .inputs) ++ drop (shape .inputs) old → length filled ≡ length old → length after ≡ length cells → CellRoom filled after shape
-room-next {shape} {old} r l w t filled after e same all =
+pub room-next : {shape : Shape} {old : List ℕ} → KnownRoom old shape → (l : List ℕ) (w t : ℕ) (filled after : List ℕ)
+    → filled ≡ inputCodes l w t (shape .inputs) ++ drop (shape .inputs) old → length filled ≡ length old → after ≡ filled → KnownRoom after shape
+room-next {shape} {old} r l w t filled after e same is =
     let i = shape .inputs in
-    record {
+    rw is
+    (record {
       told = omega (arith, r .told);
-      celled = omega (arith, r .celled);
       none-known =
           ap (drop i) e ∙ drop-at (inputCodes l w t i) (drop i old) i (tab-length (codeAt l w t) 0 i) ∙ r .none-known
           ∙ ap (λ n. drop i (replicate n 8)) (sym same);
-    }
+    })
 
 -- CORE on a change: the inputs are known, and no gate
 module _ (n l rows : List ℕ) (task : Task) (a : Accepts n l rows task) (c : ℕ) (known : List ℕ)
@@ -156,10 +156,9 @@ module _ (n l rows : List ℕ) (task : Task) (a : Accepts n l rows task) (c : �
   abbrev signals : ℕ
   signals = signalsOf (task .shape)
 
-  pub searchable : {images lookup : List ℕ} (room : ℕ) → images ≡ imageTable → lookup ≡ lookupTable → outputs ≤ room
-      → OutputsReady images lookup rows known (task .shape) room
-  searchable room images-are lookup-are enough =
-      outputs-ready n l rows task a c known (ready n l rows task a c images-are lookup-are known is) (ap length is ∙ known-all n l rows task a c) room enough
+  pub searchable : {table : List ℕ} (room : ℕ) → table ≡ searchTable → outputs ≤ room → OutputsReady table rows known (task .shape) room
+  searchable room table-is enough =
+      outputs-ready n l rows task a c known (ready n l rows task a c table-is known is) (ap length is ∙ known-all n l rows task a c) room enough
 
   search-same : (out : ℕ) → out < outputs → searchFrom rows known signals out ≡ searchOf n l c out
   unfolding searchFrom searchOf

@@ -17,9 +17,8 @@ pub record AllOf (m : Method) (netlist list rows : List ℕ) (task : Task) (room
   pub enough : task .changes * m .width ≤ room
 
 -- CORE's room for one change after the other: a byte for each signal, of which past the inputs nothing is known
-pub record CellRoom (known cells : List ℕ) (shape : Shape) : Type 0 where
+pub record KnownRoom (known : List ℕ) (shape : Shape) : Type 0 where
   pub told : signalsOf shape ≤ length known
-  pub celled : length known ≤ length cells
   pub none-known : drop (shape .inputs) known ≡ drop (shape .inputs) (replicate (length known) 8)
 
 -- a buffer with the first T rows at its start

@@ -5,7 +5,7 @@ ghost use lib.ListN.{length};
 ghost use Rattle.changes.specs.Lent.{signalsOf};
 ghost use Rattle.core.specs.Lent.{SearchRoom};
 ghost use Rattle.batch.specs.Batch.{fullOf, forwardOf, coreOf, Answers};
-ghost use Rattle.batch.specs.Lent.{AllOf, CellRoom, Judges, methodOf, widthFor};
+ghost use Rattle.batch.specs.Lent.{AllOf, KnownRoom, Judges, methodOf, widthFor};
 use changes::Listed;
 use changes::Task;
 use netlist::Shape;
@@ -58,16 +58,15 @@ fn forward_rows(
     task: Task,
     rows: &[u16],
     known: &mut [u8],
-    cells: &mut [u8],
+    hot: &mut [u8],
     buffer: &mut [u8],
 ) -> Judged
     requires { ⌜ AllOf (forwardOf (now netlist) (now list)) (now netlist) (now list) (now rows) task (length (now buffer)) ⌝ }
-    requires { ⌜ (signalsOf (task .shape) ≤ length (now known)) × (length (now known) ≤ length (now cells)) ⌝ }
+    requires { ⌜ (signalsOf (task .shape) ≤ length (now known)) × (length (now known) ≤ length (now hot)) ⌝ }
     ensures { λ r. ⌜ Judges (forwardOf (now (netlist .entry)) (now (list .entry))) (task .changes) (now (buffer .entry)) (now (buffer .exit)) r ⌝ }
 {
     let table = tables::gate_table();
-    let images = tables::images();
-    let lookup = tables::lookup();
+    let search = tables::search();
     let shape = task.shape;
     let signals = shape.inputs + shape.gates;
     let outputs = shape.outputs;
@@ -76,14 +75,12 @@ fn forward_rows(
     for change in 0..task.changes {
         let at = change * outputs;
         changes::fill_inputs(list, task, change, known);
-        touched += forward::spread(&table, rows, shape.inputs, shape.gates, known, cells);
+        touched += forward::spread(&table, rows, shape.inputs, shape.gates, known, hot);
         let searched = core::search_outputs(
-            &images,
-            &lookup,
+            &search,
             rows,
             shape,
-            &known[..signals],
-            cells,
+            &mut known[..signals],
             &mut buffer[at..],
         );
         visited += searched.gates;
@@ -103,15 +100,13 @@ fn core_rows(
     task: Task,
     rows: &[u16],
     known: &mut [u8],
-    cells: &mut [u8],
     buffer: &mut [u8],
 ) -> Judged
     requires { ⌜ AllOf (coreOf (now netlist) (now list)) (now netlist) (now list) (now rows) task (length (now buffer)) ⌝ }
-    requires { ⌜ CellRoom (now known) (now cells) (task .shape) ⌝ }
+    requires { ⌜ KnownRoom (now known) (task .shape) ⌝ }
     ensures { λ r. ⌜ Judges (coreOf (now (netlist .entry)) (now (list .entry))) (task .changes) (now (buffer .entry)) (now (buffer .exit)) r ⌝ }
 {
-    let images = tables::images();
-    let lookup = tables::lookup();
+    let search = tables::search();
     let shape = task.shape;
     let signals = shape.inputs + shape.gates;
     let outputs = shape.outputs;
@@ -121,12 +116,10 @@ fn core_rows(
         let at = change * outputs;
         changes::fill_inputs(list, task, change, known);
         let searched = core::search_outputs(
-            &images,
-            &lookup,
+            &search,
             rows,
             shape,
-            &known[..signals],
-            cells,
+            &mut known[..signals],
             &mut buffer[at..],
         );
         visited += searched.gates;
@@ -167,9 +160,9 @@ fn judge_in(
     buffer: &mut [u8],
     rows: &mut [u16],
     known: &mut [u8],
-    cells: &mut [u8],
+    hot: &mut [u8],
 ) -> Judged
-    requires { ⌜ SearchRoom (now netlist) (now rows) (now known) (now cells) ⌝ }
+    requires { ⌜ SearchRoom (now netlist) (now rows) (now known) × (length (now known) ≤ length (now hot)) ⌝ }
     ensures { λ r. ⌜ Answers (methodOf analysis (now (netlist .entry)) (now (list .entry))) (now (netlist .entry)) (now (list .entry)) (now (buffer .entry)) (now (buffer .exit)) r ⌝ }
 {
     match changes::decode(netlist, list, rows) {
@@ -179,11 +172,9 @@ fn judge_in(
                 return Judged::Refused(20, 0);
             }
             match analysis {
-                Analysis::Full => full_rows(netlist, list, task, rows, cells, buffer),
-                Analysis::Forward => {
-                    forward_rows(netlist, list, task, rows, known, cells, buffer)
-                }
-                Analysis::Core => core_rows(netlist, list, task, rows, known, cells, buffer),
+                Analysis::Full => full_rows(netlist, list, task, rows, hot, buffer),
+                Analysis::Forward => { forward_rows(netlist, list, task, rows, known, hot, buffer) }
+                Analysis::Core => core_rows(netlist, list, task, rows, known, buffer),
             }
         }
     }
@@ -197,7 +188,7 @@ fn judge(analysis: Analysis, netlist: &[u8], list: &[u8], buffer: &mut [u8]) -> 
     if signals <= 64 {
         let mut rows = [0u16; 640];
         let mut known = [8u8; 64];
-        let mut cells = [0u8; 64];
+        let mut hot = [0u8; 64];
         return judge_in(
             analysis,
             netlist,
@@ -205,13 +196,13 @@ fn judge(analysis: Analysis, netlist: &[u8], list: &[u8], buffer: &mut [u8]) -> 
             buffer,
             &mut rows,
             &mut known,
-            &mut cells,
+            &mut hot,
         );
     }
     if signals <= 512 {
         let mut rows = [0u16; 4672];
         let mut known = [8u8; 512];
-        let mut cells = [0u8; 512];
+        let mut hot = [0u8; 512];
         return judge_in(
             analysis,
             netlist,
@@ -219,12 +210,12 @@ fn judge(analysis: Analysis, netlist: &[u8], list: &[u8], buffer: &mut [u8]) -> 
             buffer,
             &mut rows,
             &mut known,
-            &mut cells,
+            &mut hot,
         );
     }
     let mut rows = [0u16; 20800];
     let mut known = [8u8; 2304];
-    let mut cells = [0u8; 2304];
+    let mut hot = [0u8; 2304];
     judge_in(
         analysis,
         netlist,
@@ -232,7 +223,7 @@ fn judge(analysis: Analysis, netlist: &[u8], list: &[u8], buffer: &mut [u8]) -> 
         buffer,
         &mut rows,
         &mut known,
-        &mut cells,
+        &mut hot,
     )
 }
 

@@ -26,6 +26,7 @@ use Rattle.search.proofs.Writes.{closed-all}
 use Rattle.search.proofs.Counts.{search-pins}
 use Rattle.visit.specs.Source.{sourceFrom}
 use Rattle.visit.specs.Lent.{inputsKnown}
+use Rattle.visit.specs.Cells.{Afresh}
 use Rattle.visit.proofs.Codes.{code-small}
 use Rattle.visit.proofs.Sources.{source-given, source-gate}
 
@@ -99,6 +100,14 @@ module _ (n rows : List ℕ) (d : Decoded n rows) (v : ℕ → Class) where
       go (yes l) e = absurd (omega (arith, known-input s l, code-small (v s)))
       go (no l) (yes e) = let at : inputsOf n + (s - inputsOf n) ≡ s = omega arith in rw at at (d .gate (s - inputsOf n) (omega arith))
       go (no l) (no e) = absurd (omega (arith, known-past s (omega arith)))
+
+  pub known-afresh : Afresh known
+  known-afresh s = go (decLt s (inputsOf n)) (decLt s (inputsOf n + gatesOf n))
+    where
+      go : Dec (s < inputsOf n) → Dec (s < inputsOf n + gatesOf n) → getD known s 0 ≤ 8
+      go (yes l) e = omega (arith, known-input s l, code-small (v s))
+      go (no l) (yes e) = let at : inputsOf n + (s - inputsOf n) ≡ s = omega arith in omega (arith, rw at at (known-gate (s - inputsOf n) (omega arith)))
+      go (no l) (no e) = omega (arith, known-past s (omega arith))
 
   -- the search runs on the card of the definition
   pub sources-known : sourceFrom rows known ≡ sources (cardOf n) c0 v

@@ -7,8 +7,7 @@ use borrow.Author.Tests.{le-leb, lt-leb}
 use lib.ListN.{length, take, drop, replicate}
 use lib.Seq.{take-append-add}
 use Rattle.kung.specs.Sets.{cleanSet, setOf}
-use Rattle.kung.specs.Tables.{imageTable}
-use Rattle.kung.specs.Lookup.{lookupTable}
+use Rattle.kung.specs.Lookup.{searchTable}
 use Rattle.words.specs.Refusal.{refuse}
 use Rattle.rows.specs.Rows.{outputIn}
 use Rattle.netlist.specs.Netlist.{inputsOf, gatesOf, outputAt}
@@ -31,7 +30,7 @@ use Rattle.visit.specs.Lent.{inputsKnown, SearchReady}
 use Rattle.core.specs.Core.{searchOf, guarded, coreFrom, coreAnswer}
 use Rattle.core.specs.Codes.{guardedFound}
 use Rattle.core.specs.Lent.{OutputsReady}
-use Rattle.core.proofs.Cards.{sources-known, known-length, inputs-only}
+use Rattle.core.proofs.Cards.{sources-known, known-length, inputs-only, known-afresh}
 
 drop-replicate : (i m a : ℕ) → drop i (replicate m a) ≡ replicate (m - i) a
 drop-replicate zero m a = let e : m - 0 ≡ m = omega arith in rw e
@@ -73,14 +72,14 @@ module _ (n l rows : List ℕ) (task : Task) (a : Accepts n l rows task) (t : �
       known-length n rows (a .decoded) (inputClassAt l (widthOf (inputsOf n)) t)
       ∙ sym (ap₂ _+_ (card-formed .inputs-are) (card-formed .gates-are))
 
-  pub ready : {images lookup : List ℕ} → images ≡ imageTable → lookup ≡ lookupTable → (k : List ℕ) → k ≡ known → SearchReady images lookup rows k
-  ready i w k e =
+  pub ready : {table : List ℕ} → table ≡ searchTable → (k : List ℕ) → k ≡ known → SearchReady table rows k
+  ready is k e =
       rw e
       (record {
-        images-are = i;
-        lookup-are = w;
+        table-is = is;
         gates-only = inputs-only n rows (a .decoded) (inputClassAt l (widthOf (inputsOf n)) t);
         few-signals = omega (arith, known-all, card-formed .inputs-high, card-formed .gates-high);
+        afresh = known-afresh n rows (a .decoded) (inputClassAt l (widthOf (inputsOf n)) t);
       })
 
   -- the signal of an output
@@ -95,8 +94,8 @@ module _ (n l rows : List ℕ) (task : Task) (a : Accepts n l rows task) (t : �
   pub rows-long : 9 * signalsOf (task .shape) + task .shape .outputs ≤ length rows
   rows-long = omega (arith, a .decoded .long, card-formed .inputs-are, card-formed .gates-are, card-formed .outputs-are)
 
-  pub outputs-ready : {images lookup : List ℕ} (k : List ℕ) → SearchReady images lookup rows k → length k ≡ signalsOf (task .shape)
-      → (room : ℕ) → task .shape .outputs ≤ room → OutputsReady images lookup rows k (task .shape) room
+  pub outputs-ready : {table : List ℕ} (k : List ℕ) → SearchReady table rows k → length k ≡ signalsOf (task .shape)
+      → (room : ℕ) → task .shape .outputs ≤ room → OutputsReady table rows k (task .shape) room
   outputs-ready k r all room enough =
       record {
         ready = r;

@@ -22,11 +22,11 @@ use Rattle.search.specs.Pins.{sumBelow, pinsIn}
 use Rattle.search.proofs.Writes.{visit-length, closed-all}
 use Rattle.search.proofs.Counts.{search-pins}
 use Rattle.visit.specs.Source.{sourceFrom}
-use Rattle.visit.specs.Found.{foundOf, verdictCode, cellsLeft}
+use Rattle.visit.specs.Found.{foundOf, verdictCode}
 use Rattle.visit.specs.Lent.{SearchReady}
 use Rattle.visit.specs.declared.Found.{Found}
 use Rattle.visit.proofs.Sources.{source-given, source-gate}
-use Rattle.core.specs.Outputs.{verdictByte, searchFrom, byteFrom, sumFrom, cellsFrom}
+use Rattle.core.specs.Outputs.{verdictByte, searchFrom, byteFrom, sumFrom}
 use Rattle.core.specs.Codes.{foundByte}
 
 -- a search visits no more gates than it has cells
@@ -54,7 +54,7 @@ search-few src w s = go (src s)
         )
 
 -- and takes no more than eight pins of each
-module _ {images lookup rows known : List ℕ} (r : SearchReady images lookup rows known) where
+module _ {table rows known : List ℕ} (r : SearchReady table rows known) where
   few-pins : (s : ℕ) → length (pinsOf (sourceFrom rows known s)) ≤ 8
   unfolding rowPins
   few-pins s = go (decLt (getD known s 0) 8)
@@ -85,7 +85,7 @@ module _ (rows known : List ℕ) (n o s : ℕ) (at : s ≡ outputIn rows n o) (f
   unfolding searchFrom setOf
   found-is = is ∙ ap (λ s. foundOf (search (sourceFrom rows known) 15 s)) at
 
-  pub found-few : {images lookup : List ℕ} → SearchReady images lookup rows known → s < length known → (found .gates ≤ suc s) × (found .pins ≤ 8 * 2304)
+  pub found-few : {table : List ℕ} → SearchReady table rows known → s < length known → (found .gates ≤ suc s) × (found .pins ≤ 8 * 2304)
   found-few r below = rw is (search-few (sourceFrom rows known) 15 s, taken-few r 15 s below)
 
   pub found-next : (count : Answer → ℕ) (sum more : ℕ) → sum ≡ sumFrom count rows known n o → more ≡ count (searchFrom rows known n o)
@@ -99,9 +99,3 @@ module _ (rows known : List ℕ) (n o s : ℕ) (at : s ≡ outputIn rows n o) (f
   found-byte old now e h byte b =
       ap₂ (λ now byte. set now o byte) e (b ∙ ap (λ f. foundByte (f .verdict)) found-is ∙ byte-code ((searchFrom rows known n o) .verdict))
       ∙ rw zero-add at (written-more old 0 (byteFrom rows known n) o (rw zero-add h))
-
--- the cells after one output more
-pub cells-next : (rows known : List ℕ) (n o s : ℕ) → s ≡ outputIn rows n o → (lent now : List ℕ) → now ≡ cellsFrom rows known n o lent
-    → (after : List ℕ) → after ≡ cellsLeft (sourceFrom rows known) 15 s now → after ≡ cellsFrom rows known n (o + 1) lent
-unfolding cellsFrom setOf
-cells-next rows known n o s at lent now e after is = is ∙ rw (add-one o) (ap₂ (cellsLeft (sourceFrom rows known) 15) at e)

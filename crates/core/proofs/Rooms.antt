@@ -8,10 +8,9 @@ use Rattle.core.specs.Lent.{SearchRoom}
 
 -- arrays for so many signals
 room-for : (signals rows : ℕ) → 9 * signals + 64 ≤ rows → signals ≤ 2304 → (n : List ℕ) → (inputsOf n + gatesOf n ≤ 2304 → inputsOf n + gatesOf n ≤ signals)
-    → SearchRoom n (replicate rows 0) (replicate signals 8) (replicate signals 0)
+    → SearchRoom n (replicate rows 0) (replicate signals 8)
 room-for signals rows long few n told =
     let bytes = length-replicate {A = ℕ} signals 8 in
-    let cells = length-replicate {A = ℕ} signals 0 in
     record {
       room = record {
         rowed = omega (arith, length-replicate {A = ℕ} rows 0);
@@ -19,15 +18,14 @@ room-for signals rows long few n told =
         told = λ h. omega (arith, told h);
       };
       none-known = rw bytes;
-      celled = omega arith;
     }
 
 -- those of a small card, of a larger one and of the largest
-pub small-room : (n : List ℕ) → inputsOf n + gatesOf n ≤ 64 → SearchRoom n (replicate 640 0) (replicate 64 8) (replicate 64 0)
+pub small-room : (n : List ℕ) → inputsOf n + gatesOf n ≤ 64 → SearchRoom n (replicate 640 0) (replicate 64 8)
 small-room n h = room-for 64 640 (omega arith) (omega arith) n (λ f. h)
 
-pub middle-room : (n : List ℕ) → inputsOf n + gatesOf n ≤ 512 → SearchRoom n (replicate 4672 0) (replicate 512 8) (replicate 512 0)
+pub middle-room : (n : List ℕ) → inputsOf n + gatesOf n ≤ 512 → SearchRoom n (replicate 4672 0) (replicate 512 8)
 middle-room n h = room-for 512 4672 (omega arith) (omega arith) n (λ f. h)
 
-pub large-room : (n : List ℕ) → SearchRoom n (replicate 20800 0) (replicate 2304 8) (replicate 2304 0)
+pub large-room : (n : List ℕ) → SearchRoom n (replicate 20800 0) (replicate 2304 8)
 large-room n = room-for 2304 20800 (omega arith) (omega arith) n (λ f. f)

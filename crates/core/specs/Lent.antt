@@ -11,8 +11,8 @@ use Rattle.changes.specs.Lent.{signalsOf}
 use Rattle.visit.specs.Lent.{SearchReady}
 
 -- all outputs can be searched, and there is room for their bytes
-pub record OutputsReady (images lookup rows known : List ℕ) (shape : Shape) (room : ℕ) : Type 0 where
-  pub ready : SearchReady images lookup rows known
+pub record OutputsReady (table rows known : List ℕ) (shape : Shape) (room : ℕ) : Type 0 where
+  pub ready : SearchReady table rows known
   pub all-known : length known ≡ signalsOf shape
   pub outputs-high : shape .outputs ≤ 64
   pub output-below : (o : ℕ) → o < shape .outputs → outputIn rows (signalsOf shape) o < length known
@@ -20,7 +20,6 @@ pub record OutputsReady (images lookup rows known : List ℕ) (shape : Shape) (r
   pub enough : shape .outputs ≤ room
 
 -- room for any netlist's search: no class is known at first
-pub record SearchRoom (netlist rows known cells : List ℕ) : Type 0 where
+pub record SearchRoom (netlist rows known : List ℕ) : Type 0 where
   pub room : Room (inputsOf netlist + gatesOf netlist) rows known
   pub none-known : known ≡ replicate (length known) 8
-  pub celled : length known ≤ length cells

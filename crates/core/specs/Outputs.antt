@@ -1,5 +1,5 @@
 -- The searches of all outputs of a decoded card, where a byte for each signal says what is known.
-use Prim.Native.Nat.{ℕ, zero, suc}
+use Prim.Native.Nat.{ℕ}
 use mathlib.Core.List.{List}
 use Rattle.kung.specs.Sets.{cleanSet}
 use Rattle.rows.specs.Rows.{outputIn}
@@ -7,7 +7,6 @@ use Rattle.search.specs.Search as search
 use Rattle.search.specs.Search.{Answer, search}
 use Rattle.search.specs.Pins.{sumBelow}
 use Rattle.visit.specs.Source.{sourceFrom}
-use Rattle.visit.specs.Found.{cellsLeft}
 
 -- "The first O bytes of a lent buffer get 0 (clean) or 1 (hazardous)": an output's byte
 abbrev pub verdictByte : search.Verdict → ℕ
@@ -24,8 +23,3 @@ byteFrom rows known n o = verdictByte ((searchFrom rows known n o) .verdict)
 -- the gates visited, or the pins taken, for the outputs below o
 abbrev pub sumFrom : (Answer → ℕ) → (rows known : List ℕ) → (n o : ℕ) → ℕ
 sumFrom count rows known n o = sumBelow (λ o. count (searchFrom rows known n o)) o
-
--- the cells lent for these outputs' searches, each of which leaves its own
-unfoldable pub cellsFrom : (rows known : List ℕ) → (n o : ℕ) → (lent : List ℕ) → List ℕ
-cellsFrom rows known n zero lent = lent
-cellsFrom rows known n (suc o) lent = cellsLeft (sourceFrom rows known) cleanSet (outputIn rows n o) (cellsFrom rows known n o lent)

@@ -5,7 +5,7 @@ ghost use lib.ListN.{length};
 ghost use Rattle.changes.specs.Lent.{signalsOf};
 ghost use Rattle.changes.specs.Written.{written};
 ghost use Rattle.core.specs.Core.{coreAnswer};
-ghost use Rattle.core.specs.Outputs.{byteFrom, sumFrom, cellsFrom};
+ghost use Rattle.core.specs.Outputs.{byteFrom, sumFrom};
 ghost use Rattle.core.specs.Codes.{guardedFound, foundByte};
 ghost use Rattle.core.specs.Lent.{OutputsReady, SearchRoom};
 use changes::Listed;
@@ -28,29 +28,26 @@ pub fn byte_of(verdict: Verdict) -> u8
     }
 }
 
-// Searches each output afresh in the lent cells and writes its byte; returns the gates visited and pins taken in all searches.
+// Searches each output afresh and writes its byte; returns the gates visited and pins taken in all searches. What is known stays.
 pub fn search_outputs(
-    images: &[u8; 4096],
-    lookup: &[u8; 780],
+    table: &[u8; 4876],
     rows: &[u16],
     shape: Shape,
-    known: &[u8],
-    cells: &mut [u8],
+    known: &mut [u8],
     buffer: &mut [u8],
 ) -> Counts
-    requires { ⌜ OutputsReady (now images) (now lookup) (now rows) (now known) shape (length (now buffer)) ⌝ }
-    requires { ⌜ length (now known) ≤ length (now cells) ⌝ }
+    requires { ⌜ OutputsReady (now table) (now rows) (now known) shape (length (now buffer)) ⌝ }
     ensures gates { λ r. ⌜ r .gates ≡ sumFrom (λ a. a .gates) (now (rows .entry)) (now (known .entry)) (signalsOf shape) (shape .outputs) ⌝ }
     ensures pins { λ r. ⌜ r .pins ≡ sumFrom (λ a. a .pins) (now (rows .entry)) (now (known .entry)) (signalsOf shape) (shape .outputs) ⌝ }
     ensures bytes { λ r. ⌜ now (buffer .exit) ≡ written (now (buffer .entry)) 0 (byteFrom (now (rows .entry)) (now (known .entry)) (signalsOf shape)) (shape .outputs) ⌝ }
-    ensures cells { λ r. ⌜ now (cells .exit) ≡ cellsFrom (now (rows .entry)) (now (known .entry)) (signalsOf shape) (shape .outputs) (now (cells .entry)) ⌝ }
+    ensures known { λ r. ⌜ now (known .exit) ≡ now (known .entry) ⌝ }
 {
     let signals = shape.inputs + shape.gates;
     let mut gates: usize = 0;
     let mut pins: usize = 0;
     for output in 0..shape.outputs {
         let signal = rows::output_of(rows, signals, output) as usize;
-        let found = find(images, lookup, rows, known, cells, CLEAN_SET, signal);
+        let found = find(table, rows, known, CLEAN_SET, signal);
         let verdict = found.verdict;
         buffer[output] = byte_of(verdict);
         gates += found.gates;
@@ -102,9 +99,8 @@ fn core_in(
     output: usize,
     rows: &mut [u16],
     known: &mut [u8],
-    cells: &mut [u8],
 ) -> Cored
-    requires { ⌜ SearchRoom (now netlist) (now rows) (now known) (now cells) ⌝ }
+    requires { ⌜ SearchRoom (now netlist) (now rows) (now known) ⌝ }
     ensures { λ r. ⌜ r ≡ coreAnswer (now (netlist .entry)) (now (list .entry)) change output ⌝ }
 {
     match changes::decode(netlist, list, rows) {
@@ -117,20 +113,11 @@ fn core_in(
             if shape.outputs <= output {
                 return Cored::Refused(19, 0);
             }
-            let images = tables::images();
-            let lookup = tables::lookup();
+            let table = tables::search();
             changes::fill_inputs(list, task, change, known);
             let signals = shape.inputs + shape.gates;
             let s = rows::output_of(rows, signals, output) as usize;
-            let found = find(
-                &images,
-                &lookup,
-                rows,
-                &known[..signals],
-                cells,
-                CLEAN_SET,
-                s,
-            );
+            let found = find(&table, rows, &mut known[..signals], CLEAN_SET, s);
             guard(shape.pins, found)
         }
     }
@@ -144,41 +131,14 @@ pub fn core(netlist: &[u8], list: &[u8], change: usize, output: usize) -> Cored
     if signals <= 64 {
         let mut rows = [0u16; 640];
         let mut known = [8u8; 64];
-        let mut cells = [0u8; 64];
-        return core_in(
-            netlist,
-            list,
-            change,
-            output,
-            &mut rows,
-            &mut known,
-            &mut cells,
-        );
+        return core_in(netlist, list, change, output, &mut rows, &mut known);
     }
     if signals <= 512 {
         let mut rows = [0u16; 4672];
         let mut known = [8u8; 512];
-        let mut cells = [0u8; 512];
-        return core_in(
-            netlist,
-            list,
-            change,
-            output,
-            &mut rows,
-            &mut known,
-            &mut cells,
-        );
+        return core_in(netlist, list, change, output, &mut rows, &mut known);
     }
     let mut rows = [0u16; 20800];
     let mut known = [8u8; 2304];
-    let mut cells = [0u8; 2304];
-    core_in(
-        netlist,
-        list,
-        change,
-        output,
-        &mut rows,
-        &mut known,
-        &mut cells,
-    )
+    core_in(netlist, list, change, output, &mut rows, &mut known)
 }

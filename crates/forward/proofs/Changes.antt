@@ -1,5 +1,5 @@
 -- In a change of an accepted list the bytes that the code keeps say which signals are constant. Assumes nothing.
-use Prim.Native.Nat.{ℕ, zero, suc, _+_, _-_, _*_, _≤_, _<_}
+use Prim.Native.Nat.{ℕ, zero, suc, _+_, _-_, _≤_, _<_}
 use native.Mathlib.Omega.{arith}
 use native.Mathlib.Decide.{decLt}
 use mathlib.Core.Path.{_≡_, refl, sym, _∙_, ap, ap₂, fun-ext}
@@ -14,14 +14,14 @@ use Rattle.kung.specs.Class.{Class, c0, code, ofCode}
 use Rattle.kung.specs.Rule as rule
 use Rattle.kung.specs.Rule.{gateClass}
 use Rattle.kung.specs.Sets.{bit, cleanSet}
-use Rattle.kung.specs.Tables.{tab, imageTable}
-use Rattle.kung.specs.Lookup.{lookupTable}
+use Rattle.kung.specs.Tables.{tab}
+use Rattle.kung.specs.Lookup.{searchTable}
 use Rattle.kung.proofs.Finite.{everyClass, class-at, beq→≡, ofCode-code}
 use Rattle.circuit.specs.Circuit.{Source, given, gate, outOf, Each, value}
 use Rattle.circuit.proofs.Laws.{each-map, value-law, sources-cases}
-use Rattle.rows.specs.Rows.{rowKind, rowPins, outputIn}
+use Rattle.rows.specs.Rows.{rowKind, rowPins}
 use Rattle.rows.specs.Lent.{GateRow}
-use Rattle.netlist.specs.Netlist.{inputsOf, gatesOf, outputsOf, gateKind, gatePins, outputAt, cardOf}
+use Rattle.netlist.specs.Netlist.{inputsOf, gatesOf, gateKind, gatePins, cardOf}
 use Rattle.netlist.specs.Formed.{Formed}
 use Rattle.netlist.proofs.Accepted.{formed}
 use Rattle.changes.specs.declared.Task.{Task}
@@ -33,8 +33,8 @@ use Rattle.changes.proofs.Accepted.{listed}
 use Rattle.search.specs.Search.{search}
 use Rattle.search.specs.Pins.{sumBelow}
 use Rattle.sweep.specs.Sweep.{codesOf, isConstantCode, anyConstant, touchedBy}
-use Rattle.visit.specs.Source.{sourceFrom}
-use Rattle.visit.specs.Lent.{SearchReady}
+use Rattle.visit.specs.Source.{signalOf, sourceFrom}
+use Rattle.visit.specs.Cells.{Afresh}
 use Rattle.core.specs.Outputs.{verdictByte, searchFrom, byteFrom, sumFrom}
 use Rattle.core.specs.Lent.{OutputsReady}
 use Rattle.visit.proofs.Codes.{code-small}
@@ -47,7 +47,7 @@ use Rattle.forward.specs.Forward.{constantsIn, touchedIn, outputSearch, 
 use Rattle.forward.specs.Known.{knownOr8, knownCodes, sweptCodes}
 use Rattle.forward.proofs.Constants.{spread-is, known-given}
 use Rattle.forward.proofs.Theorems.{falling}
-use Rattle.forward.proofs.Bytes.{written-below, written-at, written-after}
+use Rattle.forward.proofs.Bytes.{written-below, written-at}
 
 some-ext : (f g : ℕ → Bool) (xs : List ℕ) → Each (λ x. f x ≡ g x) xs → rule.some f xs ≡ rule.some g xs
 unfolding rule.some
@@ -193,7 +193,7 @@ module _ (n l rows : List ℕ) (task : Task) (a : Accepts n l rows task) (t : �
 
   -- each signal's byte tells its source
   source-at : (s : ℕ) → sourceFrom rows known s ≡ src s
-  unfolding sourcesOf cardOf knownSources sourceFrom
+  unfolding sourcesOf cardOf knownSources sourceFrom signalOf
   source-at s =
       sources-cases (cardOf n) c0 _ (λ s c. sourcesOf n l t s ≡ c → sourceFrom rows known s ≡ src s) (λ s h. input s h _) driven above s refl
     where
@@ -249,17 +249,32 @@ module _ (n l rows : List ℕ) (task : Task) (a : Accepts n l rows task) (t : �
           rw e at (a .decoded .gate (s - inputsOf n) (omega (arith, f .inputs-are, signals-are)))
       go (no above) (no beyond) = absurd (omega (arith, known-above s (omega arith)))
 
+  known-afresh : Afresh known
+  known-afresh s = go (decLt s i) (decLt s (i + g))
+    where
+      few : (b : Bool) (k : Class) → cond b (code k) 8 ≤ 8
+      few true k = omega (arith, code-small k)
+      few false k = omega arith
+
+      go : Dec (s < i) → Dec (s < i + g) → getD known s 0 ≤ 8
+      go (yes below) d = omega (arith, known-input s below, code-small (classIn n l t s))
+      go (no above) (yes below) =
+          let e : i + (s - i) ≡ s = omega arith in
+          let k = classIn n l t (i + (s - i)) in
+          omega (arith, rw e at (known-gate (s - i) (omega arith)), rw e at (few (isConstantCode (code k)) k))
+      go (no above) (no beyond) = omega (arith, known-above s (omega arith))
+
   -- the outputs can be searched
-  pub searchable : {images lookup : List ℕ} → images ≡ imageTable → lookup ≡ lookupTable → (k : List ℕ) → k ≡ known → (room : ℕ) → o ≤ room
-      → OutputsReady images lookup rows k (task .shape) room
-  searchable images-are lookup-are k e room enough =
+  pub searchable : {table : List ℕ} → table ≡ searchTable → (k : List ℕ) → k ≡ known → (room : ℕ) → o ≤ room
+      → OutputsReady table rows k (task .shape) room
+  searchable table-is k e room enough =
       rw e
       (outputs-ready n l rows task a t known
       (record {
-        images-are = images-are;
-        lookup-are = lookup-are;
+        table-is = table-is;
         gates-only = known-only;
         few-signals = omega (arith, known-length, f .inputs-high, f .gates-high);
+        afresh = known-afresh;
       }) known-length room enough)
 
   -- the same, of what the calls hand back

@@ -55,7 +55,7 @@ pub enum Forwarded {
     Refused(u8, usize),
 }
 
-// The verdicts of a change in lent room. The cells serve the spread first: each search clears those that it uses.
+// The verdicts of a change in lent room.
 fn forward_in(
     netlist: &[u8],
     list: &[u8],
@@ -63,9 +63,9 @@ fn forward_in(
     buffer: &mut [u8],
     rows: &mut [u16],
     known: &mut [u8],
-    cells: &mut [u8],
+    hot: &mut [u8],
 ) -> Forwarded
-    requires { ⌜ SearchRoom (now netlist) (now rows) (now known) (now cells) ⌝ }
+    requires { ⌜ SearchRoom (now netlist) (now rows) (now known) × (length (now known) ≤ length (now hot)) ⌝ }
     ensures { λ r. ⌜ (r ≡ forwardAnswer (now (netlist .entry)) (now (list .entry)) change (now (buffer .entry))) × (now (buffer .exit) ≡ forwardBuffer (now (netlist .entry)) (now (list .entry)) change (now (buffer .entry))) ⌝ }
 {
     match changes::decode(netlist, list, rows) {
@@ -79,18 +79,15 @@ fn forward_in(
                 return Forwarded::Refused(20, 0);
             }
             let table = tables::gate_table();
-            let images = tables::images();
-            let lookup = tables::lookup();
+            let search = tables::search();
             changes::fill_inputs(list, task, change, known);
-            let touched = spread(&table, rows, shape.inputs, shape.gates, known, cells);
+            let touched = spread(&table, rows, shape.inputs, shape.gates, known, hot);
             let signals = shape.inputs + shape.gates;
             let searched = core::search_outputs(
-                &images,
-                &lookup,
+                &search,
                 rows,
                 shape,
-                &known[..signals],
-                cells,
+                &mut known[..signals],
                 buffer,
             );
             Forwarded::Done {
@@ -109,7 +106,7 @@ pub fn forward(netlist: &[u8], list: &[u8], change: usize, buffer: &mut [u8]) ->
     if signals <= 64 {
         let mut rows = [0u16; 640];
         let mut known = [8u8; 64];
-        let mut cells = [0u8; 64];
+        let mut hot = [0u8; 64];
         return forward_in(
             netlist,
             list,
@@ -117,13 +114,13 @@ pub fn forward(netlist: &[u8], list: &[u8], change: usize, buffer: &mut [u8]) ->
             buffer,
             &mut rows,
             &mut known,
-            &mut cells,
+            &mut hot,
         );
     }
     if signals <= 512 {
         let mut rows = [0u16; 4672];
         let mut known = [8u8; 512];
-        let mut cells = [0u8; 512];
+        let mut hot = [0u8; 512];
         return forward_in(
             netlist,
             list,
@@ -131,12 +128,12 @@ pub fn forward(netlist: &[u8], list: &[u8], change: usize, buffer: &mut [u8]) ->
             buffer,
             &mut rows,
             &mut known,
-            &mut cells,
+            &mut hot,
         );
     }
     let mut rows = [0u16; 20800];
     let mut known = [8u8; 2304];
-    let mut cells = [0u8; 2304];
+    let mut hot = [0u8; 2304];
     forward_in(
         netlist,
         list,
@@ -144,6 +141,6 @@ pub fn forward(netlist: &[u8], list: &[u8], change: usize, buffer: &mut [u8]) ->
         buffer,
         &mut rows,
         &mut known,
-        &mut cells,
+        &mut hot,
     )
 }

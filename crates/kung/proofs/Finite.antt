@@ -1,12 +1,8 @@
 -- A fact about every class, operation or Boolean, by one test that antt computes. Assumes nothing.
 use mathlib.Core.Path.{_≡_, refl, sym, subst, _∙_}
 use mathlib.Core.Bool.{Bool, true, false, not, _&&_, _||_, Bool·beq}
-use mathlib.Core.List.{List, [], _∷_}
-use Prim.Native.Nat.{ℕ}
 use lib.Dec.{T, eqb, eqb→eq}
-use lib.ListN.{getD}
 use Rattle.kung.specs.Class.{Class, c0, c1, R, F, S0, S1, D+, D-, code, classes, ofCode, same}
-use Rattle.kung.specs.Rule.{each, Kind, NOT, BUFFER, AND, OR, NAND, NOR}
 use Rattle.kung.specs.Operation.{Op, and, or}
 
 pub both-left : (a b : Bool) → T (a && b) → T a

@@ -6,7 +6,7 @@ use Prim.Native.Nat.{ℕ, _+_, _*_, _/_, _%_, _<_}
 use native.Mathlib.Omega.{arith}
 use lib.Dec.{eqb}
 use lib.ListN.{getD}
-use Rattle.kung.specs.Class.{Class, code, same}
+use Rattle.kung.specs.Class.{Class, same}
 use Rattle.kung.specs.Rule.{some}
 use Rattle.kung.specs.Operation.{and, or, opAt, invertIf, joinAll}
 use Rattle.kung.specs.Sets.{setOf, has}
@@ -24,12 +24,12 @@ gateAt-bits g h e ps =
     λ i. invertIf (eqb (a i) 1) (joinAll (cond (eqb (b i) 0) and or) ps)
 
 -- what stands at a place of the table
-pub gate-at : (g m : ℕ) → m < 256 → getD gateTable (g % 4 * 256 + m) 0 ≡ code (gateAt g (members m))
+pub gate-at : (g m : ℕ) → m < 256 → getD gateTable (g % 4 * 256 + m) 0 ≡ insert 0 (gateAt g (members m))
 unfolding gateTable gateRule
 gate-at g m h =
     let a : (g % 4 * 256 + m) / 256 % 4 ≡ g % 4 = omega arith in
     let b : (g % 4 * 256 + m) % 256 ≡ m = omega arith in
-    getD-tab gateRule 1024 (g % 4 * 256 + m) (omega arith) ∙ ap code (gateAt-bits _ g a _ ∙ ap (λ n. gateAt g (members n)) b)
+    getD-tab gateRule 1024 (g % 4 * 256 + m) (omega arith) ∙ ap (insert 0) (gateAt-bits _ g a _ ∙ ap (λ n. gateAt g (members n)) b)
 
 -- A gate's class depends on its operation, its inversion and the set of its pins' classes alone.
 pub gate-collect : (g : ℕ) (ps : List Class) → gateAt g (members (collect ps)) ≡ gateAt g ps

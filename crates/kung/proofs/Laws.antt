@@ -1,12 +1,12 @@
 -- Laws of the classes, each once over the operation. Assumes nothing.
-use mathlib.Core.Path.{_≡_, refl, sym, subst, _∙_, ap, ap₂}
+use mathlib.Core.Path.{_≡_, refl, sym, _∙_, ap}
 use mathlib.Core.Bool.{Bool, true, false, cond, not, _&&_, _||_, Bool·beq}
 use mathlib.Core.List.{List, [], _∷_, map}
 use lib.Dec.{T}
-use Rattle.kung.specs.Class.{Class, c0, c1, R, F, S0, S1, D+, D-, code, classes, start, end, same}
+use Rattle.kung.specs.Class.{Class, c0, c1, R, F, classes, start, end, same}
 use Rattle.kung.specs.Rule.{each, some, byEnds, andAll, orAll, invert, Kind, NOT, BUFFER, AND, OR, NAND, NOR, gateClass, gateValue}
-use Rattle.kung.specs.Operation.{Op, and, or, opOf, inverts, invertIf, joinAll, join, unit, controlling, valueAll, notIf}
-use Rattle.kung.proofs.Finite.{implies, implied, same→≡, everyClass, everyOp, everyBool, everyPair, class-at, op-at, bool-at, pair-at, beq→≡, T→≡, ≡→T, both-left, both-right}
+use Rattle.kung.specs.Operation.{Op, and, or, opOf, inverts, invertIf, joinAll, join, unit, valueAll, notIf}
+use Rattle.kung.proofs.Finite.{implies, implied, same→≡, everyClass, everyOp, everyBool, everyPair, class-at, bool-at, pair-at, beq→≡}
 
 pub invert-invert : (k : Class) → invert (invert k) ≡ k
 unfolding everyClass
@@ -108,10 +108,6 @@ pub join-unit : (o : Op) (a : Class) → join o (unit o) a ≡ a
 unfolding join joinAll andAll orAll each some everyPair everyOp everyClass
 join-unit o a = law2 (λ o a b. join o (unit o) a) (λ o a b. a) tt o a a
 
-pub join-controlling : (o : Op) (a : Class) → join o (controlling o) a ≡ controlling o
-unfolding join joinAll andAll orAll each some everyPair everyOp everyClass
-join-controlling o a = law2 (λ o a b. join o (controlling o) a) (λ o a b. controlling o) tt o a a
-
 pub join-assoc : (o : Op) (a b c : Class) → join o (join o a b) c ≡ join o a (join o b c)
 unfolding join joinAll andAll orAll each some everyPair everyOp everyClass
 join-assoc o a b c =
@@ -195,13 +191,3 @@ ends-gate x d ps =
     inverted : (b : Bool) (k : Class) → endOf x (invertIf b k) ≡ notIf b (endOf x k)
     inverted true k = ends-invert x k
     inverted false k = refl
-
--- inversion exchanges the operations
-abbrev pub dual : Op → Op
-dual and = or
-dual or = and
-
-pub invert-join : (o : Op) (ps : List Class) → invert (joinAll o ps) ≡ joinAll (dual o) (map invert ps)
-unfolding joinAll orAll
-invert-join and ps = ap (λ l. invert (andAll l)) (sym (map-invert ps))
-invert-join or ps = invert-invert (andAll (map invert ps))

@@ -1,4 +1,4 @@
--- What stands at a place of the search's table. Assumes nothing.
+-- What stands behind the images in the search's table. Assumes nothing.
 use mathlib.Core.Path.{_≡_, refl, sym, _∙_, ap, ap₂}
 use mathlib.Core.Bool.{cond, not}
 use Prim.Native.Nat.{ℕ, _+_, _-_, _*_, _/_, _%_, _<_}
@@ -11,51 +11,53 @@ use Rattle.kung.specs.Class.{code, ofCode}
 use Rattle.kung.specs.Operation.{and, or, opAt}
 use Rattle.kung.specs.Sets.{setOf, has}
 use Rattle.kung.specs.Tables.{tab, preimage, reach, blockRule, halfSet, wantedRule}
-use Rattle.kung.specs.Lookup.{joinedBy, endsWith, stopSet, lookupRule, lookupTable}
+use Rattle.kung.specs.Lookup.{joinedBy, endsWith, stopSet, lookupRule, lookupTable, searchTable}
 use Rattle.kung.proofs.Listed.{getD-tab, agree}
+use Rattle.kung.proofs.Places.{search-other}
 use Rattle.kung.proofs.Unions.{setOf-or, block-or, halves}
 
-rule-at : (i : ℕ) → i < 780 → getD lookupTable i 0 ≡ lookupRule i
+-- place x has the rule's entry i
+rule-at : (x i : ℕ) → x ≡ 4096 + i → i < 780 → getD searchTable x 0 ≡ lookupRule i
 unfolding lookupTable
-rule-at i h = getD-tab lookupRule 780 i h
+rule-at x i e h = ap (λ (x : ℕ). getD searchTable x 0) e ∙ search-other i ∙ getD-tab lookupRule 780 i h
 
 -- what a waiting gate makes of a class
-pub join-at : (w k : ℕ) → w < 17 → getD lookupTable (w * 8 + k % 8) 0 ≡ code (joinedBy w (ofCode k))
+pub join-at : (w k : ℕ) → w < 17 → getD searchTable (4096 + w * 8 + k % 8) 0 ≡ code (joinedBy w (ofCode k))
 unfolding lookupRule ofCode
 join-at w k low =
     let a : (w * 8 + k % 8) / 8 ≡ w = omega arith in
     let b : (w * 8 + k % 8) % 8 ≡ k % 8 = omega arith in
-    rule-at (w * 8 + k % 8) (omega arith) ∙ rw (lt-ltb (w * 8 + k % 8) 136 (omega arith), a, b)
+    rule-at (4096 + w * 8 + k % 8) (w * 8 + k % 8) (omega arith) (omega arith) ∙ rw (lt-ltb (w * 8 + k % 8) 136 (omega arith), a, b)
 
 -- the stop bits of checks (b) and (c), and all of them
-ends-at : (w g : ℕ) → w < 17 → g < 4 → getD lookupTable (136 + w * 4 + g) 0 ≡ setOf (endsWith w g)
+ends-at : (w g : ℕ) → w < 17 → g < 4 → getD searchTable (4096 + 136 + w * 4 + g) 0 ≡ setOf (endsWith w g)
 unfolding lookupRule
 ends-at w g low four =
     let a : (136 + w * 4 + g - 136) / 4 ≡ w = omega arith in
     let b : (136 + w * 4 + g - 136) % 4 ≡ g = omega arith in
-    rule-at (136 + w * 4 + g) (omega arith)
+    rule-at (4096 + 136 + w * 4 + g) (136 + w * 4 + g) (omega arith) (omega arith)
     ∙ rw (le-ltb (136 + w * 4 + g) 136 (omega arith), lt-ltb (136 + w * 4 + g) 204 (omega arith)) (λ i. setOf (endsWith (a i) (b i)))
 
-pub stop-at : (w g m : ℕ) → w < 17 → g < 4 → m < 256 → bitOr (255 - m) (getD lookupTable (136 + w * 4 + g) 0) ≡ stopSet w g m
+pub stop-at : (w g m : ℕ) → w < 17 → g < 4 → m < 256 → bitOr (255 - m) (getD searchTable (4096 + 136 + w * 4 + g) 0) ≡ stopSet w g m
 unfolding stopSet setOf has tab
 stop-at w g m low four byte =
     ap₂ bitOr (agree (λ m. 255 - m) (λ m. setOf (λ p. not (has m p))) 256 refl m byte) (ends-at w g low four)
     ∙ sym (setOf-or (λ p. not (has m p)) (endsWith w g))
 
 -- entry k of a block
-entry : (b k m : ℕ) → b < 18 → k < 32 → cond (ltb k 16) (k % 16) (k % 16 * 16) ≡ m → getD lookupTable (204 + b * 32 + k) 0 ≡ blockRule b m
+entry : (b k m : ℕ) → b < 18 → k < 32 → cond (ltb k 16) (k % 16) (k % 16 * 16) ≡ m → getD searchTable (4096 + 204 + b * 32 + k) 0 ≡ blockRule b m
 unfolding lookupRule wantedRule halfSet
 entry b k m low less e =
     let c : (204 + b * 32 + k - 204) / 32 ≡ b = omega arith in
     let d : (204 + b * 32 + k - 204) % 32 ≡ k = omega arith in
     let f : (204 + b * 32 + k - 204) % 16 ≡ k % 16 = omega arith in
-    rule-at (204 + b * 32 + k) (omega arith)
+    rule-at (4096 + 204 + b * 32 + k) (204 + b * 32 + k) (omega arith) (omega arith)
     ∙ rw (le-ltb (204 + b * 32 + k) 136 (omega arith), le-ltb (204 + b * 32 + k) 204 (omega arith))
     (λ i. blockRule (c i) (cond (ltb (d i) 16) (f i) (f i * 16)))
     ∙ ap (blockRule b) e
 
 pub block-at : (b m : ℕ) → b < 18 → m < 256
-    → bitOr (getD lookupTable (204 + b * 32 + m % 16) 0) (getD lookupTable (204 + b * 32 + (16 + m / 16)) 0) ≡ blockRule b m
+    → bitOr (getD searchTable (4096 + 204 + b * 32 + m % 16) 0) (getD searchTable (4096 + 204 + b * 32 + (16 + m / 16)) 0) ≡ blockRule b m
 block-at b m low byte =
     ap₂ bitOr (entry b (m % 16) (m % 16) low (omega arith) lower) (entry b (16 + m / 16) (m / 16 * 16) low (omega arith) upper)
     ∙ sym (block-or b (m % 16) (m / 16 * 16)) ∙ ap (blockRule b) (halves m)

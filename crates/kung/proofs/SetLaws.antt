@@ -103,13 +103,6 @@ meets-elim m n e = let w = some-elim (λ x. has m x && has n x) classes e in (w 
 pub same-elim : (a b : Class) → same a b ≡ true → a ≡ b
 same-elim a b e = same→≡ a b (≡→T (same a b) e)
 
--- a class of the image comes from one of the set
-pub image-elim : (o : Op) (p : Class) (m : ℕ) (c : Class) → has (image o p m) c ≡ true → (k : Class) × (has m k ≡ true) × (join o p k ≡ c)
-unfolding image
-image-elim o p m c e =
-    let w = some-elim (λ k. has m k && same (join o p k) c) classes (sym (has-setOf _ c) ∙ e) in
-    (w .0, and-left (has m (w .0)) _ (w .1), same-elim _ _ (and-right (has m (w .0)) _ (w .1)))
-
 -- a class of the possible set is one that the gate can give
 pub possible-elim : (o : Op) (inverted : Bool) (p : Class) (left : Bool) (c : Class)
     → has (possible o inverted p left) c ≡ true → (k : Class) × (invertIf inverted (cond left (join o p k) p) ≡ c)
@@ -185,10 +178,17 @@ image-one o p k = setOf-ext _ _ (λ c. iff→≡ _ _ (there c) (back c))
     back : (c : Class) → same (join o p k) c ≡ true → some (λ x. has (insert 0 k) x && same (join o p x) c) classes ≡ true
     back c e = some-intro (λ x. has (insert 0 k) x && same (join o p x) c) k (rw (has-one k k ∙ same-refl k) e)
 
-pub lowest-image : (o : Op) (p k : Class) → trailingZeros 8 (image o p (insert 0 k)) ≡ code (join o p k)
+lowest-only : (k : Class) → trailingZeros 8 (setOf (same k)) ≡ code k
 unfolding trailingZeros setOf everyClass
-lowest-image o p k =
-    ap (trailingZeros 8) (image-one o p k) ∙ eqb→eq _ _ (class-at (λ c. eqb (trailingZeros 8 (setOf (same c))) (code c)) tt (join o p k))
+lowest-only k = eqb→eq _ _ (class-at (λ c. eqb (trailingZeros 8 (setOf (same c))) (code c)) tt k)
+
+-- a class by the set of it alone
+pub lowest-one : (k : Class) → trailingZeros 8 (insert 0 k) ≡ code k
+unfolding insert
+lowest-one k = ap (trailingZeros 8) (setOf-ext _ _ (λ c. (λ i. has-none c i || same k c))) ∙ lowest-only k
+
+pub lowest-image : (o : Op) (p k : Class) → trailingZeros 8 (image o p (insert 0 k)) ≡ code (join o p k)
+lowest-image o p k = ap (trailingZeros 8) (image-one o p k) ∙ lowest-only (join o p k)
 
 same-invert : (b : Bool) (x c : Class) → same x (invertIf b c) ≡ same (invertIf b x) c
 unfolding everyClass

@@ -1,13 +1,13 @@
--- The table of the search, by its rule: what a waiting gate makes of a class, the stop bits and the wanted sets.
+-- What the table of the search has beside images, by its rule: what a waiting gate makes of a class, the stop bits and the wanted sets.
 use Prim.Native.Nat.{ℕ, _-_, _/_, _%_}
 use mathlib.Core.Bool.{Bool, cond, not, true, _&&_, _||_}
-use mathlib.Core.List.{List}
+use mathlib.Core.List.{List, _++_}
 use lib.Dec.{eqb, ltb}
 use Rattle.kung.specs.Class.{Class, code, ofCode}
 use Rattle.kung.specs.Operation.{join, opAt}
 use Rattle.kung.specs.Sets.{setOf, has, image, possible}
 use Rattle.kung.specs.Members.{onlyCode}
-use Rattle.kung.specs.Tables.{tab, wantedRule}
+use Rattle.kung.specs.Tables.{tab, imageTable, wantedRule}
 
 -- A waiting gate is a number: 8 times its operation, and its p; 16 where nobody waits. What it makes of a class: the join with its p, or the class itself.
 unfoldable pub joinedBy : (waiter : ℕ) → Class → Class
@@ -37,3 +37,7 @@ lookupRule i =
 
 unfoldable pub lookupTable : List ℕ
 lookupTable = tab lookupRule 0 780
+
+-- The search reads images and these others in one table, since lending two costs it time.
+unfoldable pub searchTable : List ℕ
+searchTable = imageTable ++ lookupTable

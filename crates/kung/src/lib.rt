@@ -6,8 +6,8 @@ ghost use Rattle.kung.specs.Rule.{invert};
 ghost use Rattle.kung.specs.Operation.{join, opAt};
 ghost use Rattle.kung.specs.Sets.{image, possible};
 ghost use Rattle.kung.specs.Members.{insert, swapIf, onlyCode, members};
-ghost use Rattle.kung.specs.Tables.{imageTable, preimage, reach, imagePlace, blockRule};
-ghost use Rattle.kung.specs.Lookup.{lookupTable, joinedBy, stopSet};
+ghost use Rattle.kung.specs.Tables.{preimage, reach, imagePlace, blockRule};
+ghost use Rattle.kung.specs.Lookup.{searchTable, joinedBy, stopSet};
 ghost use Rattle.kung.specs.Gates.{gateAt, gateTable, unite};
 
 fn wide(x: u8) -> usize
@@ -16,7 +16,7 @@ fn wide(x: u8) -> usize
     x as usize
 }
 
-// An entry's place in the table of images.
+// An image's place in the table of the search.
 fn place(operation: u8, p: u8, set: u8) -> usize
     ensures { λ r. ⌜ r ≡ imagePlace operation p set ⌝ }
 {
@@ -61,16 +61,16 @@ pub fn only_class(set: u8) -> u8
 }
 
 // What p joined with a class of the set can give.
-pub fn image_of(table: &[u8; 4096], operation: u8, p: u8, set: u8) -> u8
-    requires { ⌜ now table ≡ imageTable ⌝ }
+pub fn image_of(table: &[u8; 4876], operation: u8, p: u8, set: u8) -> u8
+    requires { ⌜ now table ≡ searchTable ⌝ }
     ensures { λ r. ⌜ r ≡ image (opAt operation) (ofCode p) set ⌝ }
 {
     table[place(operation, p, set)]
 }
 
 // The join of two classes: the one class of an image, so the lowest.
-pub fn joined(table: &[u8; 4096], operation: u8, p: u8, class: u8) -> u8
-    requires { ⌜ now table ≡ imageTable ⌝ }
+pub fn joined(table: &[u8; 4876], operation: u8, p: u8, class: u8) -> u8
+    requires { ⌜ now table ≡ searchTable ⌝ }
     ensures { λ r. ⌜ r ≡ code (join (opAt operation) (ofCode p) (ofCode class)) ⌝ }
 {
     let image = image_of(table, operation, p, with_class(0, class));
@@ -78,8 +78,8 @@ pub fn joined(table: &[u8; 4096], operation: u8, p: u8, class: u8) -> u8
 }
 
 // What a gate can still give, p being the join of the pins taken.
-pub fn possible_set(table: &[u8; 4096], operation: u8, inverted: bool, p: u8, left: bool) -> u8
-    requires { ⌜ now table ≡ imageTable ⌝ }
+pub fn possible_set(table: &[u8; 4876], operation: u8, inverted: bool, p: u8, left: bool) -> u8
+    requires { ⌜ now table ≡ searchTable ⌝ }
     ensures { λ r. ⌜ r ≡ possible (opAt operation) inverted (ofCode p) left ⌝ }
 {
     if left {
@@ -90,51 +90,51 @@ pub fn possible_set(table: &[u8; 4096], operation: u8, inverted: bool, p: u8, le
 }
 
 // What the waiting gate makes of a class: the join with its p, or the class itself where nobody waits.
-pub fn joined_by(lookup: &[u8; 780], waiter: u8, class: u8) -> u8
-    requires { ⌜ (now lookup ≡ lookupTable) × (waiter < 17) ⌝ }
+pub fn joined_by(table: &[u8; 4876], waiter: u8, class: u8) -> u8
+    requires { ⌜ (now table ≡ searchTable) × (waiter < 17) ⌝ }
     ensures { λ r. ⌜ r ≡ code (joinedBy waiter (ofCode class)) ⌝ }
 {
-    lookup[wide(waiter) * 8 + wide(class % 8)]
+    table[4096 + wide(waiter) * 8 + wide(class % 8)]
 }
 
 // Where a block's entry stands in the table of the search.
 fn entry_in(block: usize, entry: u8) -> usize
     requires { ⌜ block < 18 ⌝ }
-    ensures { λ r. ⌜ r ≡ 204 + block * 32 + entry ⌝ }
+    ensures { λ r. ⌜ r ≡ 4096 + 204 + block * 32 + entry ⌝ }
 {
-    204 + block * 32 + wide(entry)
+    4096 + 204 + block * 32 + wide(entry)
 }
 
 // What a block has for a set: the union of what it has for the set's halves.
-fn in_block(lookup: &[u8; 780], block: usize, set: u8) -> u8
-    requires { ⌜ (now lookup ≡ lookupTable) × (block < 18) ⌝ }
+fn in_block(table: &[u8; 4876], block: usize, set: u8) -> u8
+    requires { ⌜ (now table ≡ searchTable) × (block < 18) ⌝ }
     ensures { λ r. ⌜ r ≡ blockRule block set ⌝ }
 {
-    lookup[entry_in(block, set % 16)] | lookup[entry_in(block, 16 + set / 16)]
+    table[entry_in(block, set % 16)] | table[entry_in(block, 16 + set / 16)]
 }
 
 // The classes that the waiting gate's p joins into the set.
-pub fn preimage_of(lookup: &[u8; 780], waiter: u8, set: u8) -> u8
-    requires { ⌜ (now lookup ≡ lookupTable) × (waiter < 16) ⌝ }
+pub fn preimage_of(table: &[u8; 4876], waiter: u8, set: u8) -> u8
+    requires { ⌜ (now table ≡ searchTable) × (waiter < 16) ⌝ }
     ensures { λ r. ⌜ r ≡ preimage (opAt (waiter / 8)) (ofCode waiter) set ⌝ }
 {
-    in_block(lookup, wide(waiter), set)
+    in_block(table, wide(waiter), set)
 }
 
 // The classes that some further class joins into the set.
-pub fn reach_of(lookup: &[u8; 780], operation: u8, set: u8) -> u8
-    requires { ⌜ now lookup ≡ lookupTable ⌝ }
+pub fn reach_of(table: &[u8; 4876], operation: u8, set: u8) -> u8
+    requires { ⌜ now table ≡ searchTable ⌝ }
     ensures { λ r. ⌜ r ≡ reach (opAt operation) set ⌝ }
 {
-    in_block(lookup, 16 + wide(operation % 2), set)
+    in_block(table, 16 + wide(operation % 2), set)
 }
 
 // The p with which the checks end a gate's visit while pins are left; `reach` is the reach of its wanted set before inversion.
-pub fn stop_bits(lookup: &[u8; 780], waiter: u8, gate: u8, reach: u8) -> u8
-    requires { ⌜ (now lookup ≡ lookupTable) × (waiter < 17) × (gate < 4) ⌝ }
+pub fn stop_bits(table: &[u8; 4876], waiter: u8, gate: u8, reach: u8) -> u8
+    requires { ⌜ (now table ≡ searchTable) × (waiter < 17) × (gate < 4) ⌝ }
     ensures { λ r. ⌜ r ≡ stopSet waiter gate reach ⌝ }
 {
-    (255 - reach) | lookup[136 + wide(waiter) * 4 + wide(gate)]
+    (255 - reach) | table[4096 + 136 + wide(waiter) * 4 + wide(gate)]
 }
 
 // The classes of one set or the other.
@@ -144,10 +144,11 @@ pub fn union(a: u8, b: u8) -> u8
     a | b
 }
 
-// A gate's class by its operation and inversion, of which a larger number's last two bits tell, and the set of its pins' classes.
-pub fn gate_class(table: &[u8; 1024], gate: u8, set: u8) -> u8
+// The set of a gate's class alone, by its operation and inversion, of which a larger number's last two bits tell, and the set of its pins'
+// classes.
+pub fn gate_set(table: &[u8; 1024], gate: u8, set: u8) -> u8
     requires { ⌜ now table ≡ gateTable ⌝ }
-    ensures { λ r. ⌜ r ≡ code (gateAt gate (members set)) ⌝ }
+    ensures { λ r. ⌜ r ≡ insert 0 (gateAt gate (members set)) ⌝ }
 {
     table[wide(gate % 4) * 256 + wide(set)]
 }

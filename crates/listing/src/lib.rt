@@ -83,25 +83,24 @@ fn keep_found(lines: &mut [u16], at: usize, class: u8, found: Found)
     lines[at + 3] = found.pins as u16;
 }
 
-// Searches all outputs of a change and keeps what is found, with the classes that full simulation gives.
+// Searches all outputs of a change and keeps what is found, with the classes that full simulation gives. What is known stays.
 fn judge_outputs(
-    images: &[u8; 4096],
-    lookup: &[u8; 780],
+    table: &[u8; 4876],
     rows: &[u16],
     shape: Shape,
-    known: &[u8],
+    known: &mut [u8],
     classes: &[u8],
     lines: &mut [u16],
 )
-    requires { ⌜ OutputsReady (now images) (now lookup) (now rows) (now known) shape 64 ⌝ }
+    requires { ⌜ OutputsReady (now table) (now rows) (now known) shape 64 ⌝ }
     requires { ⌜ (length (now known) ≤ length (now classes)) × (256 ≤ length (now lines)) ⌝ }
-    ensures { λ r. ⌜ Lined (now (rows .entry)) (now (known .entry)) (now (classes .entry)) (signalsOf shape) (now (lines .exit)) (shape .outputs) ⌝ }
+    ensures lines { λ r. ⌜ Lined (now (rows .entry)) (now (known .entry)) (now (classes .entry)) (signalsOf shape) (now (lines .exit)) (shape .outputs) ⌝ }
+    ensures known { λ r. ⌜ now (known .exit) ≡ now (known .entry) ⌝ }
 {
     let signals = shape.inputs + shape.gates;
-    let mut cells = [0u8; 2304];
     for output in 0..shape.outputs {
         let s = rows::output_of(rows, signals, output) as usize;
-        let found = visit::find(images, lookup, rows, known, &mut cells, CLEAN_SET, s);
+        let found = visit::find(table, rows, known, CLEAN_SET, s);
         keep_found(lines, 4 * output, classes[s], found);
     }
 }
@@ -153,7 +152,8 @@ fn classify(
     sweep::pass(table, rows, shape.inputs, shape.gates, &mut hot, classes);
 }
 
-// The lines of the changes from `from` on, until fewer bytes are left than a change may need.
+// The lines of the changes from `from` on, until fewer bytes are left than a change may need. Of `known` a change fills the inputs' bytes alone, since
+// the searches leave it as it was.
 fn put_page(
     netlist: &[u8],
     list: &[u8],
@@ -165,21 +165,26 @@ fn put_page(
     requires { ⌜ Accepts (now netlist) (now list) (now rows) task × (from < task .changes) ⌝ }
     ensures { λ r. ⌜ Written (pieceOf (now (netlist .entry)) (now (list .entry)) (length (now (buffer .entry))) (Progress.Change from)) (now (buffer .entry)) (now (buffer .exit)) r ⌝ }
 {
-    let images = tables::images();
-    let lookup = tables::lookup();
-    let table = tables::gate_table();
+    let table = tables::search();
+    let gates = tables::gate_table();
     let shape = task.shape;
     let signals = shape.inputs + shape.gates;
     let mut classes = [0u8; 2304];
+    let mut known = [8u8; 2304];
     let mut lines = [0u16; 256];
     let mut change = from;
     let mut at: usize = 0;
     while ROOM <= buffer.len() - at {
-        classify(&table, list, task, rows, change, &mut classes);
-        let mut known = [8u8; 2304];
+        classify(&gates, list, task, rows, change, &mut classes);
         changes::fill_inputs(list, task, change, &mut known);
-        let lent = &known[..signals];
-        judge_outputs(&images, &lookup, rows, shape, lent, &classes, &mut lines);
+        judge_outputs(
+            &table,
+            rows,
+            shape,
+            &mut known[..signals],
+            &classes,
+            &mut lines,
+        );
         at = put_lines(&lines, change, shape.outputs, buffer, at);
         change += 1;
         if change == task.changes {

@@ -1,10 +1,11 @@
 -- A record up to its pins, test by test, and as the first part of the record. Assumes nothing.
 use Prim.Native.Nat.{ℕ, _+_, _*_, _≤_, _<_}
 use native.Mathlib.Omega.{arith}
-use mathlib.Core.Path.{_≡_, refl, _∙_}
-use mathlib.Core.Bool.{Bool, true, false}
+use mathlib.Core.Path.{_≡_, refl, sym, _∙_}
+use mathlib.Core.Bool.{Bool, true, false, cond, _||_}
 use mathlib.Core.List.{List}
 use borrow.Author.Tests.{lt-ltb, le-ltb, ltb-false}
+use lib.Dec.{ltb}
 use lib.ListN.{length}
 use Rattle.words.specs.Words.{outside}
 use Rattle.words.specs.Refusal.{refuse}
@@ -14,8 +15,9 @@ use Rattle.netlist.specs.declared.Checked.{Checked}
 use Rattle.netlist.specs.declared.Checked.the-variants as netlist
 use Rattle.netlist.specs.declared.Head.{Head}
 use Rattle.netlist.specs.declared.Head.the-variants.{Pins, Refused}
-use Rattle.netlist.specs.Netlist.{kindAt, countAt, pastRecord, noKind, leastPins, mostPins, wordsBelow, recordAt}
-use Rattle.netlist.specs.Reading.{wordOf, headAt}
+use Rattle.netlist.specs.declared.Fit.the-variants as fit
+use Rattle.netlist.specs.Netlist.{kindAt, countAt, pastRecord, noKind, leastPins, mostPins, unfit, wordsBelow, recordAt}
+use Rattle.netlist.specs.Reading.{wordOf, headAt, fitAt}
 use Rattle.netlist.proofs.Accepted.{least-some, most-eight}
 
 -- the tests in turn
@@ -94,3 +96,37 @@ module _ (s : List ℕ) (signal at : ℕ) (next : Checked) where
   pub record-pins : {count word : ℕ} → headAt s at ≡ Pins count word → recordAt s signal at next ≡ wordsBelow count s (at + 2) signal 8 next
   unfolding byHead
   record-pins e = record-head ∙ rw (e, head-told s at e .count-is)
+
+-- a head with room for eight pins
+module _ (s : List ℕ) (at : ℕ) where
+  pub fit-short : length s < at + 18 → fit.Other ≡ fitAt s at
+  unfolding fitAt
+  fit-short h = rw (lt-ltb (length s) (at + 18) h)
+
+  module _ (room : at + 18 ≤ length s) where
+    pub fit-none : unfit (kindAt s at) (countAt s at) ≡ true → fit.Other ≡ fitAt s at
+    unfolding fitAt
+    fit-none e = rw (le-ltb (length s) (at + 18) room, e)
+
+    pub fit-pins : unfit (kindAt s at) (countAt s at) ≡ false → fit.Pins (countAt s at) (wordOf s at) ≡ fitAt s at
+    unfolding fitAt
+    fit-pins e = rw (le-ltb (length s) (at + 18) room, e)
+
+-- is one that is not refused
+pub fit-head : {count word : ℕ} (s : List ℕ) (at : ℕ) → fitAt s at ≡ fit.Pins count word → (at + 18 ≤ length s) × (headAt s at ≡ Pins count word)
+unfolding fitAt unfit
+fit-head {count} {word} s at h = go (ltb (length s) (at + 18)) (noKind (kindAt s at)) (outside (leastPins (kindAt s at)) (mostPins (kindAt s at)) (countAt s at)) refl refl refl h
+  where
+    go : (short none out : Bool) → ltb (length s) (at + 18) ≡ short → noKind (kindAt s at) ≡ none
+        → outside (leastPins (kindAt s at)) (mostPins (kindAt s at)) (countAt s at) ≡ out
+        → cond short fit.Other (cond (none || out) fit.Other (fit.Pins (countAt s at) (wordOf s at))) ≡ fit.Pins count word
+        → (at + 18 ≤ length s) × (headAt s at ≡ Pins count word)
+    go true none out a b d h = let z : _≡_ {A = ℕ} 0 1 = cc in absurd (omega arith)
+    go false true out a b d h = let z : _≡_ {A = ℕ} 0 1 = cc in absurd (omega arith)
+    go false false true a b d h = let z : _≡_ {A = ℕ} 0 1 = cc in absurd (omega arith)
+    go false false false a b d h =
+        let room = ltb-false (length s) (at + 18) a in
+        let few = within (leastPins (kindAt s at)) (mostPins (kindAt s at)) (countAt s at) d .1 in
+        let count-is : count ≡ countAt s at = cc h in
+        let word-is : word ≡ wordOf s at = cc h in
+        (room, rw (count-is, word-is) (sym (head-pins s at (omega arith) b d (omega (arith, most-eight (kindAt s at))))))

@@ -51,18 +51,13 @@ unfolding noKind kindOf
 meaning-above kind h =
     meaning-none kind (outside-above 1 6 kind (omega arith) ∙ lt-ltb 6 kind (omega arith)) (List·getD-eq-default (BUFFER ∷ kinds) BUFFER {n = kind} (omega arith))
 
+pub kind-unfit : (kind count : ℕ) → noKind kind ≡ true → unfit kind count ≡ true
+unfolding unfit
+kind-unfit kind count e = rw e
+
 pub no-kind : (kind : ℕ) → 7 < kind → noKind kind ≡ true
 unfolding noKind
 no-kind kind h = outside-above 1 6 kind (omega arith) ∙ lt-ltb 6 kind (omega arith)
-
--- for every byte, the operation and the inversion of the kind that it is read as
-pub meaning-operation : (kind : ℕ) → meaningOf kind .operation ≡ opCode (opOf (kindOf kind))
-unfolding meaningOf
-meaning-operation kind = refl
-
-pub meaning-inverts : (kind : ℕ) → meaningOf kind .inverts ≡ inverts (kindOf kind)
-unfolding meaningOf
-meaning-inverts kind = refl
 
 -- the limits alone tell whether a pin count is fit
 no-count : (count : ℕ) → outside 1 0 count ≡ true
@@ -143,6 +138,9 @@ module _ (kind : ℕ) (h : kind ≤ 7) where
   pub word-limits : (count : ℕ) → noKind kind ≡ false
       → outside (getD meaningTable kind 0 / 16 % 16) (getD meaningTable kind 0 / 256) count ≡ outside (leastPins kind) (mostPins kind) count
   word-limits count e = rw (word-least, word-most) (limits-kind kind count e)
+
+  pub word-unfit : (count : ℕ) → outside (getD meaningTable kind 0 / 16 % 16) (getD meaningTable kind 0 / 256) count ≡ unfit kind count
+  word-unfit count = rw (word-least, word-most) (meaning-unfit kind count)
 
   pub word-low : getD meaningTable kind 0 / 256 ≤ 8
   word-low = rw word-most (meaning-low kind .1)

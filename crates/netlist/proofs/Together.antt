@@ -1,9 +1,9 @@
--- A row's pins looked at together: where all are below the bound, none is refused. Assumes nothing.
-use Prim.Native.Nat.{ℕ, zero, suc, _+_, _-_, _*_, _≤_, _<_}
+-- A record's pins looked at together: where all are below the bound, none is refused. Assumes nothing.
+use Prim.Native.Nat.{ℕ, zero, suc, _+_, _*_, _≤_, _<_}
 use native.Mathlib.Omega.{arith}
-use native.Mathlib.Nat.{sub-zero, add-zero}
-use mathlib.Core.Path.{_≡_, refl, sym, _∙_}
-use mathlib.Core.Bool.{Bool, true, false, cond, _&&_}
+use native.Mathlib.Nat.{add-zero}
+use mathlib.Core.Path.{_≡_, refl, _∙_}
+use mathlib.Core.Bool.{Bool, true, false, _&&_}
 use mathlib.Core.List.{List, [], _∷_}
 use borrow.Author.Tests.{ltb-true, lt-leb}
 use lib.Dec.{ltb}
@@ -11,11 +11,10 @@ use lib.ListN.{length, getD}
 use Rattle.kung.specs.Rule.{each}
 use Rattle.words.specs.Words.{wordAt}
 use Rattle.words.proofs.Refusal.{pass}
-use Rattle.rows.specs.Making.{rowAt}
-use Rattle.rows.proofs.Making.{row-length, row-pin, pin-own}
+use Rattle.rows.specs.Making.{ownAt}
+use Rattle.rows.proofs.Making.{own-length, own-pin}
 use Rattle.netlist.specs.declared.Checked.{Checked}
 use Rattle.netlist.specs.Netlist.{wordsBelow}
-use Rattle.netlist.proofs.Refusals.{words-end}
 
 each-at : (f : ℕ → Bool) (xs : List ℕ) (k : ℕ) → each f xs ≡ true → k < length xs → f (getD xs k 0) ≡ true
 unfolding each
@@ -39,16 +38,8 @@ words-pass (suc n) s at bound number next h =
     pass _ _ _ _ _ (lt-leb bound (wordAt s at) (rw add-zero at (h 0 (omega arith))))
     ∙ words-pass n s (at + 2) bound number next (λ k l. let e : at + 2 * suc k ≡ at + 2 + 2 * k = omega arith in rw e at (h (suc k) (omega arith)))
 
-pub all-passed : (s : List ℕ) (at bound count : ℕ) {k : ℕ} → count ≤ 8 → k ≡ cond (each (λ x. ltb x bound) (rowAt s at count)) count 0
-    → (number : ℕ) (next : Checked) → wordsBelow count s at bound number next ≡ wordsBelow (count - k) s (at + 2 * k) bound number next
-all-passed s at bound count {k} h e number next = go (each (λ x. ltb x bound) (rowAt s at count)) refl e
-  where
-    below : each (λ x. ltb x bound) (rowAt s at count) ≡ true → (j : ℕ) → j < count → wordAt s (at + 2 * j) < bound
-    below d j l =
-        let own = row-pin s at count j (omega arith) ∙ sym (pin-own s at count j l) in
-        rw own at (ltb-true _ bound (each-at (λ x. ltb x bound) (rowAt s at count) j d (rw row-length (omega arith))))
-
-    go : (b : Bool) → each (λ x. ltb x bound) (rowAt s at count) ≡ b → k ≡ cond b count 0
-        → wordsBelow count s at bound number next ≡ wordsBelow (count - k) s (at + 2 * k) bound number next
-    go true d e = words-pass count s at bound number next (below d) ∙ sym (words-end count s at bound number next k (omega arith))
-    go false d e = rw (e, sub-zero, add-zero)
+pub all-passed : (s : List ℕ) (at bound count : ℕ) → count ≤ 8 → each (λ x. ltb x bound) (ownAt s at count) ≡ true
+    → (number : ℕ) (next : Checked) → wordsBelow count s at bound number next ≡ next
+all-passed s at bound count h e number next =
+    words-pass count s at bound number next
+    (λ j l. rw (own-pin s at count j (omega arith) l) at (ltb-true _ bound (each-at (λ x. ltb x bound) (ownAt s at count) j e (rw own-length (omega arith)))))

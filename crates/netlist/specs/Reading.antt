@@ -1,5 +1,6 @@
 -- What the check's code reads of a record, up to its pins.
 use Prim.Native.Nat.{ℕ, _+_}
+use mathlib.Core.Bool.{cond}
 use mathlib.Core.List.{List}
 use lib.Dec.{ltb}
 use lib.ListN.{length}
@@ -7,9 +8,11 @@ use Rattle.kung.specs.Rule.{kindOf}
 use Rattle.words.specs.Words.{outside}
 use Rattle.words.specs.Refusal.{refuse}
 use Rattle.rows.specs.Rows.{wordFor}
-use Rattle.netlist.specs.Netlist.{kindAt, countAt, pastRecord, noKind, leastPins, mostPins}
+use Rattle.netlist.specs.Netlist.{kindAt, countAt, pastRecord, noKind, leastPins, mostPins, unfit}
 use Rattle.netlist.specs.declared.Head.{Head}
 use Rattle.netlist.specs.declared.Head.the-variants.{Pins, Refused}
+use Rattle.netlist.specs.declared.Fit.{Fit}
+use Rattle.netlist.specs.declared.Fit.the-variants as fit
 
 -- the word of the gate whose record stands at a place
 unfoldable pub wordOf : List ℕ → (at : ℕ) → ℕ
@@ -23,3 +26,10 @@ headAt s at =
     (refuse Refused (outside (leastPins (kindAt s at)) (mostPins (kindAt s at)) (countAt s at)) 7 (at + 1)
     (refuse Refused (ltb (length s) (pastRecord s at)) 5 at
     (Pins (countAt s at) (wordOf s at)))))
+
+-- the same, told only where nothing of it is refused and eight pins have room
+unfoldable pub fitAt : List ℕ → (at : ℕ) → Fit
+fitAt s at =
+    cond (ltb (length s) (at + 18)) fit.Other
+    (cond (unfit (kindAt s at) (countAt s at)) fit.Other
+    (fit.Pins (countAt s at) (wordOf s at)))

@@ -1,16 +1,13 @@
 // Card netlists: the check with its refusals, which decodes the card into rows on the way.
 ghost use mathlib.Core.Path.{_≡_};
-ghost use mathlib.Core.Bool.{cond};
 ghost use Prim.Native.Nat.{_+_, _*_, _≤_};
-ghost use lib.Dec.{ltb};
 ghost use lib.ListN.{length};
-ghost use Rattle.kung.specs.Rule.{each};
 ghost use Rattle.words.specs.Words.{wordsAt};
 ghost use Rattle.rows.specs.Making.{putAt};
 ghost use Rattle.netlist.specs.Netlist.{inputsOf, gatesOf, pinTotal, entriesAt, unfit};
 ghost use Rattle.netlist.specs.Netlist.{counts, outputs, accepted, body, bodyWithin, checked};
 ghost use Rattle.netlist.specs.Meaning.{meaningOf, meaningWord, meaningTable};
-ghost use Rattle.netlist.specs.Reading.{headAt};
+ghost use Rattle.netlist.specs.Reading.{headAt, fitAt};
 ghost use Rattle.netlist.specs.Decoded.{rowsFrom, withOutputs, decodedBy, decoded};
 use words::is_outside;
 use words::word_at;
@@ -180,18 +177,33 @@ fn head_at(s: &[u8], meanings: &[u16; 8], at: usize) -> Head
     Head::Pins(count, meaning % 4 + 4 * (count as u16))
 }
 
-// How many of a row's pins are seen together to be below the bound: all or none.
-fn passed(row: [u16; 8], bound: u16, count: usize) -> usize
-    ensures { λ r. ⌜ r ≡ cond (each (λ x. ltb x bound) row) count 0 ⌝ }
-{
-    if rows::are_below(row, bound) {
-        count
-    } else {
-        0
-    }
+// A record behind whose head eight words have room, where its head is not refused: the number of its pins and its gate's word.
+enum Fit {
+    Pins(usize, u16),
+    Other,
 }
 
-// The check from the records on. A record's pins are looked at together first, and one after the other only where one is refused.
+fn fit_at(s: &[u8], meanings: &[u16; 8], at: usize) -> Fit
+    requires { ⌜ (now meanings ≡ meaningTable) × (at ≤ length (now s) + 11) ⌝ }
+    ensures { λ r. ⌜ r ≡ fitAt (now (s .entry)) at ⌝ }
+{
+    if s.len() < at + 18 {
+        return Fit::Other;
+    }
+    let count = s[at + 1] as usize;
+    let kind = s[at] as usize;
+    if 7 < kind {
+        return Fit::Other;
+    }
+    let meaning = meanings[kind] as usize;
+    if is_outside(meaning / 16 % 16, meaning / 256, count) {
+        return Fit::Other;
+    }
+    Fit::Pins(count, (meaning % 4 + 4 * count) as u16)
+}
+
+// The check from the records on. A record's pins are looked at together where eight have room, and one after the other where they have not or where
+// one is refused.
 fn check_records(s: &[u8], rows: &mut [u16]) -> Checked
     requires { ⌜ (inputsOf (now s) ≤ 256) × (gatesOf (now s) ≤ 2048) ⌝ }
     ensures { λ r. ⌜ r ≡ body (now (s .entry)) ⌝ }
@@ -208,12 +220,25 @@ fn check_records(s: &[u8], rows: &mut [u16]) -> Checked
         if gate == gates {
             break 'records check_outputs(s, rows, pins, at);
         }
+        let signal = inputs + gate;
+        match fit_at(s, &meanings, at) {
+            Fit::Other => {}
+            Fit::Pins(count, word) => {
+                let own = rows::own_in(s, &window, at + 2, count);
+                if rows::are_below(own, signal as u16) {
+                    let row = rows::row_in(s, &window, at + 2, count);
+                    rows::keep_row(rows, signal, row, word);
+                    pins += count;
+                    at = at + 2 + 2 * count;
+                    gate += 1;
+                    continue 'records;
+                }
+            }
+        }
         match head_at(s, &meanings, at) {
             Head::Refused(number, place) => break 'records Checked::Refused(number, place),
             Head::Pins(count, word) => {
-                let signal = inputs + gate;
-                let row = rows::row_at(s, &window, at + 2, count);
-                let mut k = passed(row, signal as u16, count);
+                let mut k: usize = 0;
                 'pins: loop {
                     if count <= k {
                         break 'pins;
@@ -224,6 +249,7 @@ fn check_records(s: &[u8], rows: &mut [u16]) -> Checked
                     }
                     k += 1;
                 }
+                let row = rows::row_short(s, at + 2, count);
                 rows::keep_row(rows, signal, row, word);
                 pins += count;
                 at = at + 2 + 2 * count;

@@ -2,11 +2,10 @@
 use Prim.Native.Nat.{ℕ, zero, suc, _+_, _-_, _*_, _≤_, _<_}
 use native.Mathlib.Omega.{arith}
 use native.Mathlib.Numerals.{add-one}
-use native.Mathlib.Nat.{add-zero}
 use mathlib.Core.Path.{_≡_, refl, sym, _∙_, ap, ap₂}
 use mathlib.Core.Bool.{Bool, true, false, cond, _&&_}
 use mathlib.Core.List.{List, [], _∷_, _++_, append-assoc}
-use borrow.Author.Tests.{lt-ltb, le-ltb, ltb-true, ltb-false, leb-true, leb-false, eq-eqb, ne-eqb}
+use borrow.Author.Tests.{lt-ltb, le-ltb, ltb-true, ltb-false, leb-true, leb-false}
 use borrow.Author.Count.{below-more}
 use lib.Bits.{bitOr}
 use lib.Dec.{eqb, leb, ltb}
@@ -19,7 +18,7 @@ use Rattle.kung.specs.Tables.{tab}
 use Rattle.kung.proofs.Listed.{getD-tab}
 use Rattle.kung.proofs.Unions.{eqb-bit}
 use Rattle.words.specs.Words.{wordAt}
-use Rattle.rows.specs.Making.{rowPin, rowAt, ones, putAt}
+use Rattle.rows.specs.Making.{rowPin, rowAt, ownPin, ownAt, ones, putAt}
 
 pub tab-length : (f : ℕ → ℕ) (i n : ℕ) → length (tab f i n) ≡ n
 unfolding tab
@@ -52,6 +51,19 @@ pub row-pin : (s : List ℕ) (at count k : ℕ) → k < 8 → getD (rowAt s at c
 unfolding rowAt
 row-pin s at count k h = getD-tab _ 8 k h
 
+pub own-all : (s : List ℕ) (at count : ℕ) (own : List ℕ) → length own ≡ 8 → Filled (ownPin s at count) own 8 → own ≡ ownAt s at count
+unfolding ownAt
+own-all s at count own e r = filled-all _ 8 own e r
+
+-- of the pins alone
+pub own-length : (s : List ℕ) (at count : ℕ) → length (ownAt s at count) ≡ 8
+unfolding ownAt
+own-length s at count = tab-length _ 0 8
+
+pub own-pin : (s : List ℕ) (at count k : ℕ) → k < 8 → k < count → getD (ownAt s at count) k 0 ≡ wordAt s (at + 2 * k)
+unfolding ownAt ownPin
+own-pin s at count k h l = getD-tab _ 8 k h ∙ rw (lt-ltb k count l)
+
 -- the gate's own pins, and those past the last
 pub pin-own : (s : List ℕ) (at count k : ℕ) → k < count → wordAt s (at + 2 * k) ≡ rowPin s at count k
 unfolding rowPin
@@ -81,13 +93,21 @@ bit-low false = omega arith
 pub ones-low : (i : ℕ) → i < 16 → getD ones i 0 ≤ 1
 ones-low i h = rw (ones-at i h) (bit-low (ltb i 8))
 
-pub window-pin : (s : List ℕ) (at count j : ℕ) → count ≤ 8 → j < 8
-    → cond (eqb (getD ones (8 - count + j) 0) 1) (wordAt s (at + 2 * j)) (wordAt s (at + 2 * (count - 1))) ≡ rowPin s at count j
-window-pin s at count j h l = rw (ones-at (8 - count + j) (omega arith), eqb-bit) (go (ltb (8 - count + j) 8) refl)
+window-own : (count j : ℕ) → count ≤ 8 → j < 8 → eqb (getD ones (8 - count + j) 0) 1 ≡ ltb j count
+window-own count j h l = rw (ones-at (8 - count + j) (omega arith), eqb-bit) (go (ltb (8 - count + j) 8) refl)
   where
-    go : (b : Bool) → ltb (8 - count + j) 8 ≡ b → cond b (wordAt s (at + 2 * j)) (wordAt s (at + 2 * (count - 1))) ≡ rowPin s at count j
-    go true e = pin-own s at count j (omega (arith, ltb-true (8 - count + j) 8 e))
-    go false e = pin-past s at count j (omega (arith, ltb-false (8 - count + j) 8 e))
+    go : (b : Bool) → ltb (8 - count + j) 8 ≡ b → b ≡ ltb j count
+    go true e = sym (lt-ltb j count (omega (arith, ltb-true (8 - count + j) 8 e)))
+    go false e = sym (le-ltb j count (omega (arith, ltb-false (8 - count + j) 8 e)))
+
+module _ (s : List ℕ) (at count j : ℕ) (h : count ≤ 8) (l : j < 8) where
+  pub window-pin : cond (eqb (getD ones (8 - count + j) 0) 1) (wordAt s (at + 2 * j)) (wordAt s (at + 2 * (count - 1))) ≡ rowPin s at count j
+  unfolding rowPin
+  window-pin = rw (window-own count j h l)
+
+  pub window-zero : cond (eqb (getD ones (8 - count + j) 0) 1) (wordAt s (at + 2 * j)) 0 ≡ ownPin s at count j
+  unfolding ownPin
+  window-zero = rw (window-own count j h l)
 
 pub picked : (own a b : ℕ) → own ≤ 1 → own * a + (1 - own) * b ≡ cond (eqb own 1) a b
 picked zero a b h = omega arith

@@ -16,6 +16,13 @@ rowPin s at count k = cond (ltb k count) (wordAt s (at + 2 * k)) (wordAt s (at +
 unfoldable pub rowAt : List ℕ → (at count : ℕ) → List ℕ
 rowAt s at count = tab (rowPin s at count) 0 8
 
+-- the pins alone, and 0 past the last
+unfoldable pub ownPin : List ℕ → (at count k : ℕ) → ℕ
+ownPin s at count k = cond (ltb k count) (wordAt s (at + 2 * k)) 0
+
+unfoldable pub ownAt : List ℕ → (at count : ℕ) → List ℕ
+ownAt s at count = tab (ownPin s at count) 0 8
+
 -- eight 1 and eight 0: of the eight from 8 - count on, the first `count` are 1
 unfoldable pub ones : List ℕ
 ones = tab (λ i. bit (ltb i 8)) 0 16

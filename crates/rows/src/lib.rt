@@ -7,10 +7,10 @@ ghost use lib.Dec.{eqb, ltb};
 ghost use lib.ListN.{length};
 ghost use Rattle.kung.specs.Rule.{each};
 ghost use Rattle.rows.specs.Rows.{pinIn, wordIn, outputIn};
-ghost use Rattle.rows.specs.Making.{rowAt, ones, putAt};
+ghost use Rattle.rows.specs.Making.{ownAt, rowAt, ones, putAt};
 use words::word_in;
 
-// Eight 1 and eight 0, to be lent to `row_at`: the eight from 8 - count on say which of a row's pins are the gate's own.
+// Eight 1 and eight 0, to be lent to `own_in` and `row_in`: the eight from 8 - count on say which of a row's pins are the gate's own.
 pub const WINDOW: [u16; 16] = [1, 1, 1, 1, 1, 1, 1, 1, 0, 0, 0, 0, 0, 0, 0, 0];
 
 // Number k of signal s's nine, which is a pin below 8.
@@ -47,7 +47,7 @@ fn pick(own: u16, a: u16, b: u16) -> u16
 }
 
 // A row where eight words have room: no jump depends on how many pins there are.
-fn row_in(s: &[u8], window: &[u16; 16], at: usize, count: usize) -> [u16; 8]
+pub fn row_in(s: &[u8], window: &[u16; 16], at: usize, count: usize) -> [u16; 8]
     requires { ⌜ (now window ≡ ones) × (1 ≤ count) × (count ≤ 8) × (at + 16 ≤ length (now s)) ⌝ }
     ensures { λ r. ⌜ r ≡ rowAt (now (s .entry)) at count ⌝ }
 {
@@ -59,8 +59,20 @@ fn row_in(s: &[u8], window: &[u16; 16], at: usize, count: usize) -> [u16; 8]
     row
 }
 
+// The pins alone where eight words have room, and 0 past them.
+pub fn own_in(s: &[u8], window: &[u16; 16], at: usize, count: usize) -> [u16; 8]
+    requires { ⌜ (now window ≡ ones) × (count ≤ 8) × (at + 16 ≤ length (now s)) ⌝ }
+    ensures { λ r. ⌜ r ≡ ownAt (now (s .entry)) at count ⌝ }
+{
+    let mut own = [0u16; 8];
+    for j in 0..8 {
+        own[j] = pick(window[8 - count + j], word_in(s, at + 2 * j), 0);
+    }
+    own
+}
+
 // A row where the bytes end with its pins, or soon after.
-fn row_short(s: &[u8], at: usize, count: usize) -> [u16; 8]
+pub fn row_short(s: &[u8], at: usize, count: usize) -> [u16; 8]
     requires { ⌜ (1 ≤ count) × (count ≤ 8) × (at + 2 * count ≤ length (now s)) ⌝ }
     ensures { λ r. ⌜ r ≡ rowAt (now (s .entry)) at count ⌝ }
 {
@@ -70,17 +82,6 @@ fn row_short(s: &[u8], at: usize, count: usize) -> [u16; 8]
         row[j] = word_in(s, at + 2 * j);
     }
     row
-}
-
-// The pins that stand from a place on, the last repeated.
-pub fn row_at(s: &[u8], window: &[u16; 16], at: usize, count: usize) -> [u16; 8]
-    requires { ⌜ (now window ≡ ones) × (1 ≤ count) × (count ≤ 8) × (at + 2 * count ≤ length (now s)) ⌝ }
-    ensures { λ r. ⌜ r ≡ rowAt (now (s .entry)) at count ⌝ }
-{
-    if s.len() < at + 16 {
-        return row_short(s, at, count);
-    }
-    row_in(s, window, at, count)
 }
 
 // Whether all of a row are below a bound.

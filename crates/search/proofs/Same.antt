@@ -6,8 +6,8 @@ use mathlib.Core.Path.{_≡_, refl, sym, _∙_, ap}
 use mathlib.Core.Bool.{Bool, true}
 use mathlib.Core.List.{List, [], _∷_, _++_}
 use mathlib.Core.Option.{Option, none, some}
-use lib.ListN.{length, drop, length-replicate, replicate-append-replicate, List·getD-append}
-use lib.Seq.{set-append-left}
+use lib.ListN.{length, getD, take, drop, length-replicate, replicate-append-replicate, List·getD-append, set}
+use lib.Seq.{length-take-le, set-append-left, set-at, set-split, split-at}
 use Rattle.kung.specs.Class.{Class}
 use Rattle.kung.specs.Rule.{Kind}
 use Rattle.kung.specs.Operation.{Op, opOf, inverts, join, unit}
@@ -156,3 +156,34 @@ module _ (src src′ : ℕ → Source Class) (c : ℕ → Bool) (closed : Closed
 -- so the search may be run with any number of cells, and any bound, above the signal
 pub search-any : (src : ℕ → Source Class) → Falling src → (n m w s : ℕ) → s < n → s < m → answerOf w (endFrom src n (src s) w s (fresh m)) ≡ search src w s
 search-any src falling n m w s below fits = search-same src src (λ s. true) (closed-all src) (λ s h. refl) falling n m w s below fits refl
+
+-- a taken pin neither sees nor changes a cell above its signal
+module _ (src : ℕ → Source Class) (falling : Falling src) (n x w : ℕ) (wt : Waiting) (cells : List ℕ) (s : ℕ) (c : Cell) (below : x < n) (less : x < s)
+    (there : s < length cells) where
+  abbrev taken : List ℕ → Ended
+  taken cells = takePin src (visit src n) x w wt cells
+
+  -- the cells below s
+  abbrev lower : List ℕ
+  lower = take s cells
+
+  lower-length : length lower ≡ s
+  lower-length = length-take-le s cells (omega arith)
+
+  with-more : (more : List ℕ) → taken (lower ++ more) ≡ onto more (taken lower)
+  with-more more =
+      take-same more src src (λ s. true) (λ s h. refl) n (visit src n) (visit src n)
+      (λ s p next w wt cells below. visit-same more src src (λ s. true) (λ s h. refl) (closed-all src) falling n n s p next w wt cells below below) x w wt lower below refl
+      (rw lower-length less)
+
+  pub take-put : taken (put cells s c) ≡ (taken cells .0, put (taken cells .1) s c)
+  unfolding put
+  take-put =
+      let rest = drop (suc s) cells in
+      let e = taken lower in
+      let long : length (e .1) ≡ s = take-length (visit src n) (visit-length src n) src x w wt lower ∙ lower-length in
+      ap taken (set-split cells s (byteOf c) there) ∙ with-more (byteOf c ∷ rest)
+      ∙ sym
+      (ap (λ cells. (taken cells .0, set (taken cells .1) s (byteOf c))) (split-at cells s 0 there)
+      ∙ ap (λ (e : Ended). (e .0, set (e .1) s (byteOf c))) (with-more (getD cells s 0 ∷ rest))
+      ∙ ap (λ l. (e .0, l)) (set-at (e .1) (getD cells s 0) rest (byteOf c) s long))

@@ -1,7 +1,7 @@
 -- What full simulation answers in each case, and what it leaves. Assumes nothing.
 use Prim.Native.Nat.{ℕ, _+_, _≤_, _<_}
 use native.Mathlib.Omega.{arith}
-use mathlib.Core.Path.{_≡_, refl, sym, _∙_, ap}
+use mathlib.Core.Path.{_≡_}
 use mathlib.Core.List.{List, _++_}
 use borrow.Author.Tests.{le-leb, lt-leb, lt-ltb, le-ltb}
 use lib.ListN.{length, drop}
@@ -13,7 +13,7 @@ use Rattle.changes.specs.Lent.{signalsOf}
 use Rattle.changes.specs.Refusals.{listChecked}
 use Rattle.changes.proofs.Accepted.{listed}
 use Rattle.simulate.specs.declared.Simulated.the-variants.{Done, Refused}
-use Rattle.simulate.specs.Full.{codes, fullFrom, left, fullAnswer, fullBuffer}
+use Rattle.simulate.specs.Full.{codes, fullFrom, fullAnswer, fullBuffer}
 use Rattle.simulate.proofs.Theorems.{codes-length}
 
 module _ (n l : List ℕ) (change : ℕ) (buffer : List ℕ) where

@@ -14,7 +14,7 @@ use Rattle.circuit.specs.Circuit.{sources, values}
 use Rattle.circuit.proofs.Laws.{sources-ext}
 use Rattle.rows.specs.Rows.{cardIn}
 use Rattle.rows.specs.Lent.{GateRow}
-use Rattle.netlist.specs.Netlist.{inputsOf, gatesOf, cardOf}
+use Rattle.netlist.specs.Netlist.{inputsOf, cardOf}
 use Rattle.netlist.specs.Formed.{Formed}
 use Rattle.netlist.proofs.Accepted.{formed}
 use Rattle.netlist.proofs.Decoded.{decoded-sources}

@@ -4,7 +4,7 @@ use native.Mathlib.Omega.{arith}
 use mathlib.Core.Path.{_≡_, refl, sym, _∙_, ap}
 use mathlib.Core.List.{List, map}
 use lib.ListN.{length, getD, length-map, List·getD-map}
-use Rattle.kung.specs.Class.{Class, c0, code, start, end}
+use Rattle.kung.specs.Class.{c0, code, start, end}
 use Rattle.kung.specs.Rule.{gateClass}
 use Rattle.circuit.specs.Circuit.{values, value}
 use Rattle.circuit.specs.Settled.{settled, classOf}

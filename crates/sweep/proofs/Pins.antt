@@ -8,7 +8,7 @@ use mathlib.Core.Path.{_≡_, refl, sym, _∙_, ap, ap₂}
 use mathlib.Core.Bool.{Bool, true, false, cond, _||_, Bool·beq, false≢true}
 use mathlib.Core.List.{List, [], _∷_, _++_, map}
 use lib.Dec.{eqb}
-use lib.ListN.{length, getD}
+use lib.ListN.{getD}
 use Rattle.kung.specs.Class.{Class, c0, c1, code, same}
 use Rattle.kung.specs.Rule.{some, NOT, BUFFER, AND, OR, NAND, NOR, gateClass}
 use Rattle.kung.specs.Operation.{and, or, invertIf, joinAll}
@@ -16,7 +16,7 @@ use Rattle.kung.specs.Sets.{setOf, has}
 use Rattle.kung.specs.Members.{members, insert, collect}
 use Rattle.kung.specs.Tables.{tab}
 use Rattle.kung.specs.Gates.{gateAt, unite}
-use Rattle.kung.proofs.Finite.{everyClass, class-at, beq→≡, ≡→T}
+use Rattle.kung.proofs.Finite.{everyClass, class-at, beq→≡}
 use Rattle.kung.proofs.Laws.{gateClass-op}
 use Rattle.kung.proofs.Unions.{some-or}
 use Rattle.kung.proofs.SetLaws.{has-setOf, setOf-ext, has-one}

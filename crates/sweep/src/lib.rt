@@ -60,9 +60,10 @@ pub fn pass(
     for gate in 0..gates {
         let s = inputs + gate;
         let set = pin_set(rows, s, &*hot);
-        let class = kung::gate_class(table, (rows::word_of(rows, s) % 4) as u8, set);
-        hot[s] = kung::with_class(0, class);
-        buffer[s] = class;
+        // the gates after this one wait for the set alone, not for the code
+        let only = kung::gate_set(table, (rows::word_of(rows, s) % 4) as u8, set);
+        hot[s] = only;
+        buffer[s] = u8::trailing_zeros(only) as u8;
         touched += is_touched(set);
     }
     touched

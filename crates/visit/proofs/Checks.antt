@@ -3,29 +3,24 @@ use Prim.Native.Nat.{ℕ, _/_, _≤_, _<_}
 use native.Mathlib.Omega.{arith}
 use mathlib.Core.Path.{_≡_, refl, sym, _∙_, ap}
 use mathlib.Core.Bool.{Bool, true, false, cond, not, _&&_, _||_}
-use mathlib.Core.List.{List, []}
+use mathlib.Core.List.{List}
 use mathlib.Core.Option.{Option, none, some}
 use lib.Bits.{bitAnd}
-use lib.Dec.{eqb, ltb}
-use lib.ListN.{getD}
-use borrow.Author.Tests.{eq-eqb, ne-eqb, lt-ltb, le-ltb, ltb-true, ltb-false}
+use lib.Dec.{T, eqb, ltb}
+use borrow.Author.Tests.{eq-eqb, ne-eqb, lt-ltb}
 use Rattle.kung.specs.Class.{Class, c0, c1, R, F, S0, S1, D+, D-, code, ofCode}
-use Rattle.kung.specs.Rule.{Kind}
-use Rattle.kung.specs.Operation.{Op, opOf, opAt, inverts, invertIf, join}
+use Rattle.kung.specs.Rule.{Kind, each, some as someOf, andAll, orAll}
+use Rattle.kung.specs.Operation.{Op, and, or, opOf, opAt, inverts, invertIf, join, joinAll}
 use Rattle.kung.specs.Sets.{bit, setOf, has, meets, image, possible, wantedFor}
 use Rattle.kung.specs.Members.{swapIf}
 use Rattle.kung.specs.Tables.{preimage, reach}
 use Rattle.kung.specs.Lookup.{joinedBy, hasOne, givesOne, endsWith, stopSet}
-use Rattle.kung.proofs.Finite.{ofCode-code}
-use Rattle.kung.proofs.SetLaws.{has-setOf, meets-possible, wanted-preimage}
-use Rattle.rows.specs.Rows.{countIn, wordIn, rowKind, rowPins}
-use Rattle.search.specs.Search.{nextOf, cellOf, cellAt, possibleOf, only, Waiting, nobody, waits, Outcome, stopped, known, sameResult, knownOr, checks, toldOr, driverOf}
-use Rattle.search.proofs.Laws.{only-last}
-use Rattle.search.proofs.Steps.{left-is}
-use Rattle.visit.specs.Codes.{waitingOf, codeOr, endingOf, checkOf, toldOf}
-use Rattle.visit.specs.Visits.{toldAt}
-use Rattle.visit.proofs.Codes.{code-ofCode, code-small, meets-and, only-code}
-use Rattle.visit.proofs.Sources.{source-given, source-gate, pins-length}
+use Rattle.kung.proofs.Finite.{T→≡, everyClass, class-at, ofCode-code}
+use Rattle.kung.proofs.SetLaws.{has-setOf, has-swapIf, meets-possible, wanted-preimage}
+use Rattle.search.specs.Search.{possibleOf, pinsLeft, only, Waiting, nobody, waits, Outcome, stopped, known, sameResult, knownOr, checks}
+use Rattle.search.proofs.Laws.{only-has, only-last}
+use Rattle.visit.specs.Codes.{waitingOf, codeOr, endingOf, checkOf}
+use Rattle.visit.proofs.Codes.{code-small, meets-and, only-code}
 
 pub stops : (wt : Waiting) → endingOf wt stopped ≡ 8
 stops nobody = refl
@@ -110,36 +105,57 @@ gives-is waiter m = go (ltb waiter 16)
     go true = one-is (image (opAt (waiter / 8)) (ofCode waiter) m) (set-byte _)
     go false = refl
 
--- where no pin is left the checks end the visit
-done-ends : (d : Kind) (p : Class) (w : ℕ) (wt : Waiting) → ended (checks (possibleOf d p []) w wt) ≡ true
-unfolding checks
-done-ends d p w wt = rw (only-last d p) (go (meets (possibleOf d p []) w) (invertIf (inverts d) p))
-  where
-    go : (b : Bool) (k : Class) → ended (cond b (some (known k)) (some stopped)) ≡ true
-    go true k = refl
-    go false k = refl
+-- where no pin is left the checks end the visit, with the class that the gate then has
+module _ (d : Kind) (p : Class) (w waiter : ℕ) where
+  abbrev Last : Option Outcome
+  Last = checks (possible (opOf d) (inverts d) p false) w (waitingOf waiter)
 
--- The stop bits say whether the checks end the visit of a gate with pins left; where none is left they always do.
-module _ (d : Kind) (g waiter w : ℕ) (o : opAt g ≡ opOf d) (i : eqb (g / 2) 1 ≡ inverts d) where
-  abbrev Set : Class → Bool → ℕ
-  Set p left = possible (opAt g) (eqb (g / 2) 1) p left
+  abbrev Class₁ : Class
+  Class₁ = invertIf (inverts d) p
+
+  last-meets : meets (possible (opOf d) (inverts d) p false) w ≡ has w Class₁
+  last-meets = meets-possible (opOf d) (inverts d) w false p ∙ has-swapIf (inverts d) w p
+
+  pub last-class : codeOr (only (possible (opOf d) (inverts d) p false)) ≡ code Class₁
+  unfolding possibleOf
+  last-class = ap codeOr (only-last d p)
+
+  pub last-ends : ended Last ≡ true
+  unfolding checks possibleOf
+  last-ends = rw (only-last d p) (go (meets (possible (opOf d) (inverts d) p false) w))
+    where
+      go : (b : Bool) → ended (cond b (some (known Class₁)) (some stopped)) ≡ true
+      go true = refl
+      go false = refl
+
+  pub last-is : cond (has w Class₁) (code (joinedBy waiter Class₁)) 8 ≡ checkOf (waitingOf waiter) Last
+  unfolding checks possibleOf
+  last-is = rw (only-last d p, last-meets) (go (has w Class₁))
+    where
+      go : (b : Bool) → cond b (code (joinedBy waiter Class₁)) 8 ≡ checkOf (waitingOf waiter) (cond b (some (known Class₁)) (some stopped))
+      go true = joins waiter Class₁
+      go false = sym (stops (waitingOf waiter))
+
+-- The stop bits say whether the checks end the visit of a gate with pins left.
+module _ (g waiter w : ℕ) where
+  abbrev Set : Class → ℕ
+  Set p = possible (opAt g) (eqb (g / 2) 1) p true
 
   abbrev Reach : ℕ
   Reach = reach (opAt g) (swapIf (eqb (g / 2) 1) w)
 
-  pub over : (p : Class) (left : Bool) → cond left (has (stopSet waiter g Reach) p) true ≡ ended (checks (Set p left) w (waitingOf waiter))
+  pub over : (p : Class) → has (stopSet waiter g Reach) p ≡ ended (checks (Set p) w (waitingOf waiter))
   unfolding stopSet endsWith checks isSome possible possibleOf
-  over p true =
-      has-setOf (λ p. not (has Reach p) || (hasOne (Set p true) || givesOne waiter (Set p true))) p
-      ∙ (λ j. not (sym (meets-possible (opAt g) (eqb (g / 2) 1) w true p) j) || (one-is (Set p true) (set-byte _) j || gives-is waiter (Set p true) j))
-      ∙ go (meets (Set p true) w) (only (Set p true)) (sameResult (waitingOf waiter) (Set p true))
+  over p =
+      has-setOf (λ p. not (has Reach p) || (hasOne (Set p) || givesOne waiter (Set p))) p
+      ∙ (λ j. not (sym (meets-possible (opAt g) (eqb (g / 2) 1) w true p) j) || (one-is (Set p) (set-byte _) j || gives-is waiter (Set p) j))
+      ∙ go (meets (Set p) w) (only (Set p)) (sameResult (waitingOf waiter) (Set p))
     where
       go : (b : Bool) (x y : Option Class) → (not b || (isSome x || isSome y)) ≡ ended (cond b (knownOr x y) (some stopped))
       go true (some k) y = refl
       go true none (some r) = refl
       go true none none = refl
       go false x y = refl
-  over p false = sym ((λ j. ended (checks (possible (o j) (i j) p false) w (waitingOf waiter))) ∙ done-ends d p w (waitingOf waiter))
 
 -- the waiting gate's wanted set for a visit behind it
 wantedBy : Waiting → ℕ → ℕ
@@ -155,33 +171,21 @@ wants d g w waiter p left goal o i small waiting e =
     ap (λ wt. wantedBy wt goal) (same ∙ waiting) ∙ ap (preimage (opAt g) p) e
     ∙ sym (wanted-preimage (opAt g) (eqb (g / 2) 1) w left p) ∙ (λ j. wantedFor (o j) (i j) p left w)
 
--- what is told of a signal without a visit
-module _ (rows known cells : List ℕ) (x : ℕ) where
-  pub told-given : getD known x 0 < 8 → getD known x 0 ≡ toldAt rows known cells x
-  unfolding driverOf
-  told-given h = rw (source-given rows known x h) (omega (arith, code-ofCode (getD known x 0)))
+-- a possible set's only class is that of p
+all-own : (o : Op) (v left : Bool) → T (everyClass (λ p. has (possible o v p left) (invertIf v p)))
+unfolding everyClass has possible setOf someOf each join joinAll andAll orAll
+all-own and true true = tt
+all-own and true false = tt
+all-own and false true = tt
+all-own and false false = tt
+all-own or true true = tt
+all-own or true false = tt
+all-own or false true = tt
+all-own or false false = tt
 
-  module _ (searched : 8 ≤ getD known x 0) where
-    pub told-new : getD cells x 0 < 128 → 8 ≡ toldAt rows known cells x
-    unfolding driverOf cellAt cellOf
-    told-new h = rw (source-gate rows known x searched, lt-ltb (getD cells x 0) 128 h)
+own : (o : Op) (v left : Bool) (p : Class) → has (possible o v p left) (invertIf v p) ≡ true
+own o v left p = T→≡ _ (class-at (λ p. has (possible o v p left) (invertIf v p)) (all-own o v left) p)
 
-    pub told-kept : 128 ≤ getD cells x 0
-        → codeOr (only (possible (opOf (rowKind rows x)) (inverts (rowKind rows x)) (ofCode (getD cells x 0)) (ltb (nextOf (getD cells x 0)) (countIn (wordIn rows x)))))
-        ≡ toldAt rows known cells x
-    unfolding driverOf cellAt cellOf possibleOf
-    told-kept h =
-        rw (source-gate rows known x searched, le-ltb (getD cells x 0) 128 h, left-is (nextOf (getD cells x 0)) (rowPins rows x), pins-length rows x)
-        (go (only _) _ _)
-      where
-        go : (one : Option Class) (p : Class) (next : ℕ) → codeOr one ≡ toldOf (toldOr one p next)
-        go (some k) p next = refl
-        go none p next = refl
-
--- a signal that has to be visited is one to be searched
-pub untold-searched : (rows known cells : List ℕ) (s : ℕ) → toldAt rows known cells s ≡ 8 → 8 ≤ getD known s 0
-untold-searched rows codes cells s e = go (ltb (getD codes s 0) 8) refl
-  where
-    go : (b : Bool) → ltb (getD codes s 0) 8 ≡ b → 8 ≤ getD codes s 0
-    go true t = let less = ltb-true (getD codes s 0) 8 t in absurd (omega (arith, told-given rows codes cells s less))
-    go false t = ltb-false (getD codes s 0) 8 t
+pub only-own : (d : Kind) (p : Class) (left : List ℕ) (k : Class) → only (possibleOf d p left) ≡ some k → k ≡ invertIf (inverts d) p
+unfolding possibleOf
+only-own d p left k e = sym (only-has (possibleOf d p left) k (invertIf (inverts d) p) e (own (opOf d) (inverts d) (pinsLeft left) p))

@@ -1,5 +1,5 @@
 -- The code's numbers for kinds, classes, sets and waiting gates. Assumes nothing.
-use Prim.Native.Nat.{ℕ, zero, suc, _+_, _-_, _*_, _/_, _%_, _^_, _≤_, _<_}
+use Prim.Native.Nat.{ℕ, zero, suc, _+_, _-_, _*_, _/_, _%_, _^_, _<_}
 use native.Mathlib.Omega.{arith}
 use mathlib.Core.Path.{_≡_, refl, sym, _∙_, ap}
 use mathlib.Core.Bool.{Bool, true, false, cond, not, _&&_}
@@ -15,7 +15,7 @@ use Rattle.kung.specs.Members.{keep, onlyCode}
 use Rattle.kung.specs.Tables.{tab}
 use Rattle.kung.proofs.Finite.{ofCode-code}
 use Rattle.kung.proofs.Listed.{agree}
-use Rattle.search.specs.Search.{kept, byteOf, nextOf, onlyOf, only, waits}
+use Rattle.search.specs.Search.{onlyOf, only, waits}
 use Rattle.visit.specs.Codes.{waitingOf, codeOr}
 
 op-digit : (n : ℕ) → n % 2 ≡ opCode (opAt n)
@@ -39,10 +39,6 @@ code-ofCode n = agree (λ i. code (getD classes i c0)) (λ i. i) 8 refl (n % 8) 
 
 pub code-small : (k : Class) → code k < 8
 code-small k = omega (arith, code-ofCode (code k), ap code (ofCode-code k))
-
--- a visited gate's cell from what it keeps
-pub byte-back : (b : ℕ) → 128 ≤ b → byteOf (kept (ofCode b) (nextOf b)) ≡ b
-byte-back b old = omega (arith, code-ofCode b)
 
 -- the number of a gate that waits
 pub waiter-code : (n p : ℕ) → waitingOf (8 * (n % 2) + p % 8) ≡ waits (opAt n) (ofCode p)

@@ -1,98 +1,116 @@
 -- The answers of a search, as the code makes them. Assumes nothing.
-use Prim.Native.Nat.{ℕ, suc, _+_, _≤_, _<_}
+use Prim.Native.Nat.{ℕ, suc, _+_, _-_, _≤_, _<_}
 use native.Mathlib.Omega.{arith}
-use native.Mathlib.Numerals.{add-one}
 use mathlib.Core.Path.{_≡_, refl, sym, _∙_, ap, ap₂}
 use mathlib.Core.List.{List, [], _∷_, _++_}
-use lib.ListN.{getD, drop, length-replicate}
+use lib.ListN.{length, getD, take, drop, length-map, length-drop, length-replicate, take-append-drop, List·getD-map}
+use lib.Seq.{ext-getD, getD-drop, getD-take, length-take-le}
 use borrow.Author.Tests.{lt-ltb}
-use Rattle.kung.specs.Class.{code, ofCode}
+use Rattle.kung.specs.Class.{Class, code, ofCode}
 use Rattle.kung.specs.Operation.{opOf, unit}
-use Rattle.rows.specs.Rows.{rowKind}
-use Rattle.search.specs.Search.{nobody, Outcome, stopped, known, unfinished, Ended, cellOf, cellAt, driverOf, takePin, visit, fresh, total, visitedOf, nextOf, judged, verdictOf, visited, answerOf, search}
+use Rattle.circuit.specs.Circuit.{Source, Falling}
+use Rattle.rows.specs.Rows.{rowKind, invertsIn, wordIn}
+use Rattle.search.specs.Search.{byteOf, fresh, total, visitedOf, nextOf, cellAt, cellOf, nobody, Outcome, stopped, known, unfinished, driverOf, Ended, takePin, visit, judged, verdictOf, visited, answerOf, endFrom, search}
 use Rattle.search.proofs.Laws.{fresh-at, total-fresh}
-use Rattle.search.proofs.Writes.{visit-length}
+use Rattle.search.proofs.Same.{search-any}
 use Rattle.visit.specs.declared.Verdict.{Verdict}
 use Rattle.visit.specs.declared.Found.{Found}
 use Rattle.visit.specs.Source.{sourceFrom}
-use Rattle.visit.specs.Found.{verdictCode, foundOf, cellsLeft}
+use Rattle.visit.specs.Found.{verdictCode, foundOf}
 use Rattle.visit.specs.Codes.{waitingOf, endingOf, verdictFrom}
-use Rattle.visit.specs.Visits.{endedOf, tallyOf, toldAt, Takes}
+use Rattle.visit.specs.Cells.{cellsIn, knownOf, knownIn, Marks, Afresh}
+use Rattle.visit.specs.Visits.{endedOf, tallyOf, Takes}
 use Rattle.visit.proofs.Codes.{code-small}
 use Rattle.visit.proofs.Sources.{source-given, source-gate}
-use Rattle.visit.proofs.Checks.{told-new}
+use Rattle.visit.proofs.Cells.{cell-new, cells-at, cells-length, fresh-known-of, fresh-marked}
 
--- what a search finds, and how it leaves the lent cells
-abbrev Searched : (rows known : List ℕ) (w s : ℕ) (lent after : List ℕ) → Found → Type 0
-Searched rows codes w s lent after found =
-    (found ≡ foundOf (search (sourceFrom rows codes) w s)) × (after ≡ cellsLeft (sourceFrom rows codes) w s lent)
-
-module _ (rows known : List ℕ) (w s : ℕ) (given : getD known s 0 < 8) where
-  found-given : (verdict : Verdict) → verdict ≡ verdictCode (judged w (ofCode (getD known s 0)))
-      → _≡_ {A = Found} record { verdict = verdict; gates = 0; pins = 0 } (foundOf (search (sourceFrom rows known) w s))
-  unfolding search
-  found-given verdict e = rw (source-given rows known s given) (λ i. record { verdict = e i; gates = 0; pins = 0 })
-
-  cells-given : (lent : List ℕ) → lent ≡ cellsLeft (sourceFrom rows known) w s lent
-  unfolding cellsLeft
-  cells-given lent = rw (source-given rows known s given)
-
-  pub search-given : (verdict : Verdict) → verdict ≡ verdictCode (judged w (ofCode (getD known s 0))) → (lent : List ℕ)
-      → Searched rows known w s lent lent record { verdict = verdict; gates = 0; pins = 0 }
-  search-given verdict e lent = (found-given verdict e, cells-given lent)
+-- an answer without a visit
+pub search-given : (rows known : List ℕ) (w s : ℕ) → getD known s 0 < 8 → (verdict : Verdict) → verdict ≡ verdictCode (judged w (ofCode (getD known s 0)))
+    → _≡_ {A = Found} record { verdict = verdict; gates = 0; pins = 0 } (foundOf (search (sourceFrom rows known) w s))
+unfolding search
+search-given rows codes w s given verdict e = rw (source-given rows codes s given) (λ i. record { verdict = e i; gates = 0; pins = 0 })
 
 verdict-ended : (e : Outcome) → verdictFrom (endingOf nobody e) ≡ verdictCode (verdictOf e)
 verdict-ended stopped = refl
 verdict-ended (known k) = rw (lt-ltb (code k) 8 (code-small k))
 verdict-ended (unfinished r) = refl
 
--- at first nothing is counted, and nothing is told of a gate
-pub fresh-tally : (n : ℕ) → 0 ∷ 0 ∷ [] ≡ tallyOf (fresh n)
-unfolding total
-fresh-tally n = sym (ap₂ (λ (x y : ℕ). x ∷ y ∷ []) (total-fresh visitedOf refl [] n) (total-fresh nextOf refl [] n))
+-- bytes of which none is visited
+module _ (rows bytes : List ℕ) (afresh : Afresh bytes) where
+  pub fresh-known : knownIn bytes ≡ bytes
+  fresh-known = ext-getD 0 (knownIn bytes) bytes (length-map bytes knownOf) (λ t less. List·getD-map knownOf bytes t 0 ∙ fresh-known-of (getD bytes t 0) (afresh t))
 
-pub fresh-untold : (rows known : List ℕ) (s n : ℕ) → 8 ≤ getD known s 0 → toldAt rows known (fresh n) s ≡ 8
-fresh-untold rows codes s n searched = sym (told-new rows codes (fresh n) s searched (rw (fresh-at n s) (omega arith)))
+  fresh-cells : cellsIn rows bytes ≡ fresh (length bytes)
+  fresh-cells =
+      ext-getD 0 (cellsIn rows bytes) (fresh (length bytes)) (cells-length rows bytes ∙ sym (length-replicate (length bytes) 0))
+      (λ t less.
+      cells-at rows bytes t ∙ ap byteOf (cell-new (invertsIn (wordIn rows t)) (getD bytes t 0) (omega (arith, afresh t))) ∙ sym (fresh-at (length bytes) t))
 
-module _ (rows known : List ℕ) (w s : ℕ) (searched : 8 ≤ getD known s 0) (entry : List ℕ) (afresh : entry ≡ fresh (suc s)) (r : ℕ)
-    (cells tally : List ℕ) (takes : Takes rows known s w 16 entry cells tally r) where
-  -- the visit of the definition
-  abbrev Visited : Ended
-  Visited = visit (sourceFrom rows known) (suc s) s (unit (opOf (rowKind rows s))) 0 w nobody (fresh (suc s))
+  pub fresh-tally : 0 ∷ 0 ∷ [] ≡ tallyOf (cellsIn rows bytes)
+  unfolding total
+  fresh-tally =
+      sym (ap tallyOf fresh-cells ∙ ap₂ (λ (x y : ℕ). x ∷ y ∷ []) (total-fresh visitedOf refl [] (length bytes)) (total-fresh nextOf refl [] (length bytes)))
 
-  taken : takePin (sourceFrom rows known) (visit (sourceFrom rows known) (suc s)) s w nobody (fresh (suc s)) ≡ Visited
-  unfolding takePin driverOf cellAt cellOf
-  taken = rw (source-gate rows known s searched, fresh-at (suc s) s)
+  pub fresh-marks : (n : ℕ) → Marks rows bytes n
+  fresh-marks n s less = fresh-marked rows s (getD bytes s 0) (afresh s)
 
-  ended : (r, cells) ≡ endedOf nobody Visited
-  unfolding waitingOf
-  ended = takes .is (suc s) (omega arith) ∙ ap (λ c. endedOf nobody (takePin (sourceFrom rows known) (visit (sourceFrom rows known) (suc s)) s w nobody c)) afresh ∙ ap (endedOf nobody) taken
+  module _ (w s : ℕ) (falling : Falling (sourceFrom rows bytes)) (there : s < length bytes) (searched : 8 ≤ getD bytes s 0) (r : ℕ)
+      (exit tally : List ℕ) (takes : Takes rows s w 16 bytes exit tally r) where
+    abbrev Src : ℕ → Source Class
+    Src = sourceFrom rows bytes
 
-  found-visited : (found : Found) → found .verdict ≡ verdictFrom r → found .gates ≡ getD tally 0 0 → found .pins ≡ getD tally 1 0
-      → found ≡ foundOf (search (sourceFrom rows known) w s)
-  unfolding search
-  found-visited found v g p = rw (source-gate rows known s searched) (go Visited ended)
-    where
-      go : (e : Ended) → (r, cells) ≡ endedOf nobody e → found ≡ foundOf (answerOf w (visited e))
-      go e h =
-          let o : r ≡ endingOf nobody (e .0) = ap (λ x. x .0) h in
-          let c : tally ≡ tallyOf (e .1) = takes .tallied ∙ ap (λ x. tallyOf (x .1)) h in
-          λ i.
-          record {
-            verdict = (v ∙ ap verdictFrom o ∙ verdict-ended (e .0)) i;
-            gates = (g ∙ ap (λ t. getD t 0 0) c) i;
-            pins = (p ∙ ap (λ t. getD t 1 0) c) i;
-          }
+    -- the visit of the definition
+    abbrev Visited : Ended
+    Visited = visit Src (suc s) s (unit (opOf (rowKind rows s))) 0 w nobody (fresh (length bytes))
 
-  -- the cells past the signal's stay
-  cells-visited : (lent : List ℕ) → cells ++ drop (s + 1) lent ≡ cellsLeft (sourceFrom rows known) w s lent
-  unfolding cellsLeft
-  cells-visited lent =
-      rw (source-gate rows known s searched)
-      (ap₂ (λ c n. c ++ drop n lent) (ap (λ x. x .1) ended)
-      (add-one s
-      ∙ sym (visit-length (sourceFrom rows known) (suc s) s (unit (opOf (rowKind rows s))) 0 w nobody (fresh (suc s)) ∙ length-replicate (suc s) 0)))
+    taken : takePin Src (visit Src (suc s)) s w nobody (fresh (length bytes)) ≡ Visited
+    unfolding takePin driverOf cellAt cellOf
+    taken = rw (source-gate rows bytes s searched, fresh-at (length bytes) s)
 
-  pub search-visited : (found : Found) → found .verdict ≡ verdictFrom r → found .gates ≡ getD tally 0 0 → found .pins ≡ getD tally 1 0
-      → (lent : List ℕ) → Searched rows known w s lent (cells ++ drop (s + 1) lent) found
-  search-visited found v g p lent = (found-visited found v g p, cells-visited lent)
+    ended : (r, cellsIn rows exit) ≡ endedOf nobody Visited
+    unfolding waitingOf
+    ended =
+        takes .is (suc s) (omega arith)
+        ∙ (λ i. endedOf nobody (takePin (sourceFrom rows (fresh-known i)) (visit (sourceFrom rows (fresh-known i)) (suc s)) s w nobody (fresh-cells i)))
+        ∙ ap (endedOf nobody) taken
+
+    pub search-visited : (found : Found) → found .verdict ≡ verdictFrom r → found .gates ≡ getD tally 0 0 → found .pins ≡ getD tally 1 0
+        → found ≡ foundOf (search Src w s)
+    search-visited found v g p =
+        go Visited ended ∙ ap (λ d. foundOf (answerOf w (endFrom Src (suc s) d w s (fresh (length bytes))))) (sym (source-gate rows bytes s searched))
+        ∙ ap foundOf (search-any Src falling (suc s) (length bytes) w s (omega arith) there)
+      where
+        go : (e : Ended) → (r, cellsIn rows exit) ≡ endedOf nobody e → found ≡ foundOf (answerOf w (visited e))
+        go e h =
+            let o : r ≡ endingOf nobody (e .0) = ap (λ x. x .0) h in
+            let c : tally ≡ tallyOf (e .1) = takes .tallied ∙ ap (λ x. tallyOf (x .1)) h in
+            λ i.
+            record {
+              verdict = (v ∙ ap verdictFrom o ∙ verdict-ended (e .0)) i;
+              gates = (g ∙ ap (λ t. getD t 0 0) c) i;
+              pins = (p ∙ ap (λ t. getD t 1 0) c) i;
+            }
+
+    -- what was known is left, as far as the search went, and above it nothing is written
+    pub known-left : knownIn (take (s + 1) exit) ++ drop (s + 1) exit ≡ bytes
+    known-left = ap₂ (λ l u. l ++ u) lower upper ∙ take-append-drop (s + 1) bytes
+      where
+        long : length exit ≡ length bytes
+        long = sym (length-map exit knownOf) ∙ ap length (takes .known) ∙ length-map bytes knownOf
+
+        taken-length : length (take (s + 1) exit) ≡ s + 1
+        taken-length = length-take-le (s + 1) exit (omega (arith, long))
+
+        lower : knownIn (take (s + 1) exit) ≡ take (s + 1) bytes
+        lower =
+            ext-getD 0 (knownIn (take (s + 1) exit)) (take (s + 1) bytes)
+            (length-map (take (s + 1) exit) knownOf ∙ taken-length ∙ sym (length-take-le (s + 1) bytes (omega arith)))
+            (λ t less.
+            let inside : t < s + 1 = omega (arith, length-map (take (s + 1) exit) knownOf, taken-length) in
+            List·getD-map knownOf (take (s + 1) exit) t 0 ∙ ap knownOf (getD-take (s + 1) exit t 0 inside) ∙ sym (List·getD-map knownOf exit t 0)
+            ∙ ap (λ l. getD l t 0) (takes .known ∙ fresh-known) ∙ sym (getD-take (s + 1) bytes t 0 inside))
+
+        upper : drop (s + 1) exit ≡ drop (s + 1) bytes
+        upper =
+            ext-getD 0 (drop (s + 1) exit) (drop (s + 1) bytes) (length-drop (s + 1) exit ∙ ap (λ n. n - (s + 1)) long ∙ sym (length-drop (s + 1) bytes))
+            (λ t less. getD-drop (s + 1) exit t 0 ∙ takes .above (s + 1 + t) (omega arith) ∙ sym (getD-drop (s + 1) bytes t 0))

@@ -2,12 +2,11 @@
 use Prim.Native.Nat.{ℕ, zero, suc, _+_, _%_, _≤_, _<_}
 use native.Mathlib.Omega.{arith}
 use native.Mathlib.Nat.{zero-add, add-zero}
-use native.Mathlib.Decide.{decLt}
 use mathlib.Core.Path.{_≡_, refl, sym, _∙_, ap}
 use mathlib.Core.Bool.{Bool, true, false, cond}
 use mathlib.Core.List.{List}
 use lib.Dec.{eqb, ltb}
-use lib.ListN.{length, getD, List·getD-eq-default}
+use lib.ListN.{length, getD}
 use borrow.Author.Tests.{lt-ltb, le-ltb, ltb-false}
 use Rattle.kung.specs.Class.{ofCode}
 use Rattle.kung.specs.Rule.{NOT, BUFFER, AND, OR, NAND, NOR}
@@ -16,24 +15,16 @@ use Rattle.kung.specs.Tables.{tab}
 use Rattle.kung.proofs.Listed.{getD-tab}
 use Rattle.circuit.specs.Circuit.{given, gate, pinsOf, Each, Falling}
 use Rattle.rows.specs.Rows.{kindIn, countIn, gateIn, invertsIn, pinIn, wordIn, rowKind, rowPins}
-use Rattle.visit.specs.Source.{sourceFrom}
+use Rattle.visit.specs.Source.{signalOf, sourceFrom}
 use Rattle.visit.specs.Lent.{GatesOnly}
 
 pub source-given : (rows known : List ℕ) (s : ℕ) → getD known s 0 < 8 → sourceFrom rows known s ≡ given (ofCode (getD known s 0))
-unfolding sourceFrom
+unfolding sourceFrom signalOf
 source-given rows known s h = rw (lt-ltb (getD known s 0) 8 h)
 
 pub source-gate : (rows known : List ℕ) (s : ℕ) → 8 ≤ getD known s 0 → sourceFrom rows known s ≡ gate (rowKind rows s) (rowPins rows s)
-unfolding sourceFrom
+unfolding sourceFrom signalOf
 source-gate rows known s h = rw (le-ltb (getD known s 0) 8 h)
-
--- the signals to be searched are those of `known`
-pub searched-there : (known : List ℕ) (s : ℕ) → 8 ≤ getD known s 0 → s < length known
-searched-there known s h = go (decLt s (length known))
-  where
-    go : Dec (s < length known) → s < length known
-    go (yes less) = less
-    go (no past) = absurd (omega (arith, List·getD-eq-default known 0 {n = s} (omega arith)))
 
 -- a word's operation and inversion are its kind's
 module _ (word : ℕ) where
@@ -86,7 +77,7 @@ each-tab P f (suc n) i h = (rw (add-zero i) at (h 0 (omega arith)), each-tab P f
 
 -- are signals below its own
 pub falling : (rows known : List ℕ) → GatesOnly rows known → Falling (sourceFrom rows known)
-unfolding sourceFrom rowPins
+unfolding sourceFrom signalOf rowPins
 falling rows codes only s = go (ltb (getD codes s 0) 8) refl
   where
     go : (b : Bool) → ltb (getD codes s 0) 8 ≡ b → Each (λ x. x < s) (pinsOf (cond b (given (ofCode (getD codes s 0))) (gate (rowKind rows s) (rowPins rows s))))

@@ -6,10 +6,9 @@ use mathlib.Core.List.{List, [], _∷_}
 use mathlib.Core.Bool.{Bool, true, false, cond}
 use lib.Dec.{ltb}
 use lib.ListN.{length, getD}
-use borrow.Author.Tests.{lt-ltb, le-ltb}
 use Rattle.kung.specs.Class.{Class}
 use Rattle.search.specs.Search.{kept, put, nextOf, total, visitedOf, gatesVisited, pinsTaken}
-use Rattle.search.proofs.Laws.{put-same, nextOf-byteOf}
+use Rattle.search.proofs.Laws.{nextOf-byteOf}
 use Rattle.search.proofs.Counts.{total-put, visited-kept}
 use Rattle.visit.specs.Visits.{tallyOf}
 
@@ -43,25 +42,3 @@ tally-put cells s p next gates pins there g t =
     ap₂ (λ (x y : ℕ). x ∷ y ∷ [])
     (omega (arith, total-put visitedOf cells s (kept p next) there, visited-kept p next))
     (omega (arith, total-put nextOf cells s (kept p next) there, nextOf-byteOf p next))
-
--- a gate's mark
-pub unvisited : (b : ℕ) → b < 128 → visitedOf b ≡ 0
-unvisited b h = rw (lt-ltb b 128 h)
-
-pub visited : (b : ℕ) → 128 ≤ b → visitedOf b ≡ 1
-visited b h = rw (le-ltb b 128 h)
-
--- the cell of a gate that is visited and takes its pin `next` next
-pub record At (s next : ℕ) (cells : List ℕ) : Type 0 where
-  pub seen : 128 ≤ getD cells s 0
-  pub next-is : nextOf (getD cells s 0) ≡ next
-
--- as it is written
-pub at-put : (cells : List ℕ) (s : ℕ) (p : Class) (next : ℕ) → s < length cells → At s next (put cells s (kept p next))
-at-put cells s p next there =
-    record { seen = rw (put-same cells s (kept p next) there) (omega arith); next-is = rw (put-same cells s (kept p next) there) (nextOf-byteOf p next) }
-
--- written again with another p
-pub tally-again : (cells : List ℕ) (s : ℕ) (p : Class) (next : ℕ) → s < length cells → At s next cells → tallyOf cells ≡ tallyOf (put cells s (kept p next))
-tally-again cells s p next there at =
-    tally-put cells s p next (gatesVisited cells) (pinsTaken cells) there (omega (arith, visited (getD cells s 0) (at .seen))) (omega (arith, at .next-is))

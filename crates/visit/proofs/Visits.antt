@@ -3,29 +3,30 @@ use Prim.Native.Nat.{ℕ, zero, suc, _+_, _-_, _/_, _%_, _≤_, _<_}
 use native.Mathlib.Omega.{arith}
 use native.Mathlib.Numerals.{add-one}
 use mathlib.Core.Path.{_≡_, refl, sym, _∙_, ap}
-use mathlib.Core.Bool.{Bool, true, false, cond, false≢true}
+use mathlib.Core.Bool.{Bool, true, false, cond}
 use mathlib.Core.List.{List}
 use mathlib.Core.Option.{Option, none, some}
 use lib.Dec.{ltb}
-use lib.ListN.{getD, drop}
+use lib.ListN.{length, getD, drop}
 use borrow.Author.Tests.{lt-ltb, ltb-true, ltb-false}
 use Rattle.kung.specs.Class.{Class, code, ofCode}
 use Rattle.kung.specs.Operation.{Op, opOf, opAt, inverts, join, unit}
 use Rattle.kung.specs.Sets.{possible, wantedFor}
 use Rattle.kung.specs.Lookup.{joinedBy}
 use Rattle.kung.proofs.Finite.{ofCode-code}
-use Rattle.circuit.specs.Circuit.{Source, gate, Falling}
-use Rattle.rows.specs.Rows.{countIn, gateIn, wordIn, rowKind, rowPins}
-use Rattle.search.specs.Search.{new, kept, byteOf, nextOf, cellOf, cellAt, put, possibleOf, pinsLeft, only, Waiting, nobody, waits, Outcome, stopped, known, unfinished, checks, Driver, told, behind, toldOr, driverOf, Ended, fetch, react, takePin, takePins, visit}
-use Rattle.search.proofs.Laws.{nextOf-byteOf, ofCode-byteOf}
+use Rattle.circuit.specs.Circuit.{gate, Falling}
+use Rattle.rows.specs.Rows.{countIn, gateIn, invertsIn, wordIn, rowKind, rowPins}
+use Rattle.search.specs.Search.{Cell, kept, cellAt, put, possibleOf, pinsLeft, only, Waiting, nobody, waits, Outcome, stopped, known, unfinished, checks, Driver, told, behind, toldOr, driverOf, Ended, fetch, react, takePin, takePins, visit}
 use Rattle.search.proofs.Steps.{left-is, visit-gate, pins-end, pins-step}
-use Rattle.search.proofs.Writes.{visit-above}
-use Rattle.visit.specs.Source.{sourceFrom}
+use Rattle.search.proofs.Same.{take-put}
+use Rattle.visit.specs.Source.{signalOf, sourceFrom}
 use Rattle.visit.specs.Codes.{waitingOf, endingOf, checkOf, toldOf, begunFrom}
-use Rattle.visit.specs.Visits.{endedOf, tallyOf, toldAt, Takes}
+use Rattle.visit.specs.Visits.{endedOf, Lends, Takes}
+use Rattle.visit.specs.Cells.{cellIn, cellsIn, knownIn, toldIn, Marked}
 use Rattle.visit.proofs.Codes.{code-small}
 use Rattle.visit.proofs.Sources.{source-gate, gate-operation, pins-length}
-use Rattle.visit.proofs.Checks.{untold-searched, joins, ended, ended-by, goes-on, stops}
+use Rattle.visit.proofs.Checks.{joins, ended, ended-by, goes-on, stops}
+use Rattle.visit.proofs.Cells.{cell-new, cell-open, driver-at, known-small, same-code, told-class, untold-between, untold-searched}
 
 -- the waiting gate goes on with the number of a visit behind it, unless that is 8
 reacts : (e : Outcome) (after : List ℕ) (o : Op) (p : Class) (goOn : Class → List ℕ → Ended)
@@ -43,45 +44,51 @@ ending-small (waits o p) stopped = omega arith
 ending-small (waits o p) (known k) = omega (arith, code-small (join o p k))
 ending-small (waits o p) (unfinished r) = omega (arith, code-small r)
 
--- taking a pin leaves the cells above it
-take-above : (src : ℕ → Source Class) (n x w : ℕ) (wt : Waiting) (cells : List ℕ) → Falling src → (t : ℕ) → x < t
-    → getD (takePin src (visit src n) x w wt cells .1) t 0 ≡ getD cells t 0
-unfolding takePin
-take-above src n x w wt cells falling t less = go (driverOf (src x) (cellAt cells x))
-  where
-    go : (d : Driver) → getD (fetch (visit src n) x d w wt cells .1) t 0 ≡ getD cells t 0
-    go (told k) = refl
-    go (behind p next) = visit-above src n x p next w wt cells falling t less
+-- how the taking of a pin on signal x ends, over the definition's cells
+abbrev pub Ends : (rows known : List ℕ) (x wanted waiter : ℕ) (entry exit : List ℕ) (r : ℕ) → Type 0
+Ends rows codes x w waiter entry exit r =
+    (n : ℕ) → x < n
+    → (r, exit) ≡ endedOf (waitingOf waiter) (takePin (sourceFrom rows codes) (visit (sourceFrom rows codes) n) x w (waitingOf waiter) entry)
 
-module _ (rows known : List ℕ) (x w waiter : ℕ) (entry exit tally : List ℕ) (r : ℕ) (takes : Takes rows known x w waiter entry exit tally r) where
-  pub takes-small : r ≤ 8
-  takes-small = omega (arith, ap (λ e. e .0) (takes .is (suc x) (omega arith)), ending-small (waitingOf waiter) (takePin (sourceFrom rows known) (visit (sourceFrom rows known) (suc x)) x w (waitingOf waiter) entry .0))
+pub ends-small : (rows known : List ℕ) (x w waiter : ℕ) (entry exit : List ℕ) (r : ℕ) → Ends rows known x w waiter entry exit r → r ≤ 8
+ends-small rows codes x w waiter entry exit r is =
+    omega (arith, ap (λ e. e .0) (is (suc x) (omega arith)), ending-small (waitingOf waiter) (takePin (sourceFrom rows codes) (visit (sourceFrom rows codes) (suc x)) x w (waitingOf waiter) entry .0))
 
-  pub takes-above : Falling (sourceFrom rows known) → (t : ℕ) → x < t → getD exit t 0 ≡ getD entry t 0
-  takes-above falling t less =
-      ap (λ e. getD (e .1) t 0) (takes .is (suc x) (omega arith))
-      ∙ take-above (sourceFrom rows known) (suc x) x w (waitingOf waiter) entry falling t less
-
-told-small : (d : Driver) → toldOf d ≤ 8
-told-small (told k) = omega (arith, code-small k)
-told-small (behind p next) = omega arith
-
-pub untold : (rows known cells : List ℕ) (x class : ℕ) → class ≡ toldAt rows known cells x → 8 ≤ class → toldAt rows known cells x ≡ 8
-untold rows codes cells x class e h = omega (arith, told-small (driverOf (sourceFrom rows codes x) (cellAt cells x)))
+-- also where a cell above x is another
+pub ends-put : (rows known : List ℕ) (x w waiter : ℕ) (entry exit : List ℕ) (r s : ℕ) (c : Cell) → Falling (sourceFrom rows known) → x < s → s < length entry
+    → Ends rows known x w waiter entry exit r → Ends rows known x w waiter (put entry s c) (put exit s c) r
+ends-put rows codes x w waiter entry exit r s c falling less there is n below =
+    ap (λ (e : ℕ × List ℕ). (e .0, put (e .1) s c)) (is n below)
+    ∙ ap (endedOf (waitingOf waiter)) (sym (take-put (sourceFrom rows codes) falling n x w (waitingOf waiter) entry s c below less there))
 
 -- a class that is told
-pub takes-told : (rows known : List ℕ) (x w waiter : ℕ) (cells tally : List ℕ) (class r : ℕ) → class ≡ toldAt rows known cells x → class < 8
-    → r ≡ code (joinedBy waiter (ofCode class)) → tally ≡ tallyOf cells → Takes rows known x w waiter cells cells tally r
+told-ends : (rows known : List ℕ) (x w waiter : ℕ) (cells : List ℕ) (class r : ℕ)
+    → class ≡ toldOf (driverOf (sourceFrom rows known x) (cellAt cells x)) → class < 8 → r ≡ code (joinedBy waiter (ofCode class))
+    → Ends rows known x w waiter cells cells r
 unfolding takePin
-takes-told rows codes x w waiter cells tally class r told-is h joined tallied = record { is = λ n less. is n; tallied = tallied }
+told-ends rows codes x w waiter cells class r told-is h joined n less = go (driverOf (sourceFrom rows codes x) (cellAt cells x)) told-is
   where
-    go : (n : ℕ) (d : Driver) → class ≡ toldOf d
+    go : (d : Driver) → class ≡ toldOf d
         → (r, cells) ≡ endedOf (waitingOf waiter) (fetch (visit (sourceFrom rows codes) n) x d w (waitingOf waiter) cells)
-    go n (told k) e = ap (λ (r : ℕ). (r, cells)) (joined ∙ ap (λ k. code (joinedBy waiter k)) (ap ofCode e ∙ ofCode-code k) ∙ joins waiter k)
-    go n (behind p next) e = absurd (omega arith)
+    go (told k) e = ap (λ (r : ℕ). (r, cells)) (joined ∙ ap (λ k. code (joinedBy waiter k)) (ap ofCode e ∙ ofCode-code k) ∙ joins waiter k)
+    go (behind p next) e = absurd (omega arith)
 
-    is : (n : ℕ) → (r, cells) ≡ endedOf (waitingOf waiter) (takePin (sourceFrom rows codes) (visit (sourceFrom rows codes) n) x w (waitingOf waiter) cells)
-    is n = go n (driverOf (sourceFrom rows codes x) (cellAt cells x)) told-is
+-- the byte says it
+pub takes-told : (rows : List ℕ) (x w waiter : ℕ) (bytes tally : List ℕ) (r : ℕ) → Lends rows x bytes tally → toldIn (getD bytes x 0) < 8
+    → r ≡ code (joinedBy waiter (ofCode (getD bytes x 0))) → Takes rows x w waiter bytes bytes tally r
+takes-told rows x w waiter bytes tally r lends told-is joined =
+    let b = getD bytes x 0 in
+    record {
+      is =
+          told-ends rows (knownIn bytes) x w waiter (cellsIn rows bytes) (toldIn b) r
+          (lends .marked x (omega arith) ∙ ap toldOf (sym (driver-at rows bytes x)))
+          told-is (joined ∙ ap (λ k. code (joinedBy waiter k)) (told-class b told-is));
+      tallied = lends .tallied;
+      known = refl;
+      small = lends .small;
+      marked = λ h. lends .marked;
+      above = λ t h. refl;
+    }
 
 -- What is left of a gate's pins, as the definition takes them.
 module _ (rows known : List ℕ) (s w waiter : ℕ) where
@@ -105,29 +112,47 @@ pub record Arrived (rows known : List ℕ) (s w waiter : ℕ) (entry : List ℕ)
   is : (n : ℕ) → s ≤ n → leftOf rows known s w waiter n p₀ next₀ cells₀ ≡ wholeOf rows known s w waiter (suc n) entry
 
 -- on arrival
-module _ (rows known : List ℕ) (s w waiter : ℕ) (entry : List ℕ) (untold : toldAt rows known entry s ≡ 8) (b : ℕ)
-    (begun : b ≡ begunFrom (gateIn (wordIn rows s)) (getD entry s 0)) where
-  searched : 8 ≤ getD known s 0
-  searched = untold-searched rows known entry s untold
+module _ (rows : List ℕ) (s w waiter : ℕ) (bytes : List ℕ) (untold : toldIn (getD bytes s 0) ≡ 8) (marked : Marked rows s (getD bytes s 0)) (b : ℕ)
+    (begun : b ≡ begunFrom (gateIn (wordIn rows s)) (getD bytes s 0)) where
+  abbrev Byte : ℕ
+  Byte = getD bytes s 0
 
-  driver-is : driverOf (sourceFrom rows known s) (cellAt entry s) ≡ behind (ofCode b) (nextOf b)
-  unfolding cellAt cellOf driverOf begunFrom
-  driver-is = rw begun (rw (source-gate rows known s searched) (go (ltb (getD entry s 0) 128) (rw (source-gate rows known s searched) at untold)))
+  searched : 8 ≤ getD (knownIn bytes) s 0
+  searched = untold-searched bytes s untold
+
+  driver-is : driverOf (sourceFrom rows (knownIn bytes) s) (cellAt (cellsIn rows bytes) s) ≡ behind (ofCode b) (b / 8 - 2)
+  unfolding begunFrom signalOf driverOf
+  driver-is =
+      driver-at rows bytes s
+      ∙ ap (λ k. driverOf (signalOf rows s k) (cellIn Inverts₁ Byte)) (known-small Byte (untold-between Byte untold .0))
+      ∙ rw begun (go (ltb Byte 16) refl)
     where
       seen : (one : Option Class) (p : Class) (next : ℕ) → toldOf (toldOr one p next) ≡ 8 → toldOr one p next ≡ behind p next
       seen (some k) p next e = absurd (omega (arith, code-small k))
       seen none p next e = refl
 
-      go : (t : Bool) → toldOf (driverOf (gate (rowKind rows s) (rowPins rows s)) (cond t new (kept (ofCode (getD entry s 0)) (nextOf (getD entry s 0))))) ≡ 8
-          → driverOf (gate (rowKind rows s) (rowPins rows s)) (cond t new (kept (ofCode (getD entry s 0)) (nextOf (getD entry s 0))))
-          ≡ behind (ofCode (cond t (byteOf (kept (unit (opAt (gateIn (wordIn rows s)))) 0)) (getD entry s 0)))
-          (nextOf (cond t (byteOf (kept (unit (opAt (gateIn (wordIn rows s)))) 0)) (getD entry s 0)))
+      Inverts₁ : Bool
+      Inverts₁ = invertsIn (wordIn rows s)
+
+      go : (t : Bool) → ltb Byte 16 ≡ t
+          → driverOf (gate (rowKind rows s) (rowPins rows s)) (cellIn Inverts₁ Byte)
+          ≡ behind (ofCode (cond t (16 + code (unit (opAt (gateIn (wordIn rows s))))) Byte)) (cond t (16 + code (unit (opAt (gateIn (wordIn rows s))))) Byte / 8 - 2)
       go true e =
           let u = unit (opAt (gateIn (wordIn rows s))) in
-          ap (λ o. behind (unit o) 0) (sym (gate-operation (wordIn rows s))) ∙ (λ i. behind (sym (ofCode-byteOf u 0) i) (sym (nextOf-byteOf u 0) i))
-      go false e = seen (only _) _ _ e
+          let small : code u < 8 = code-small u in
+          let pin : (16 + code u) / 8 - 2 ≡ 0 = omega arith in
+          ap (driverOf (gate (rowKind rows s) (rowPins rows s))) (cell-new Inverts₁ Byte (ltb-true Byte 16 e))
+          ∙ ap (λ o. behind (unit o) 0) (sym (gate-operation (wordIn rows s)))
+          ∙ (λ i. behind (sym (same-code (16 + code u) u (omega arith)) i) (sym pin i))
+      go false e =
+          let cell = cell-open Inverts₁ Byte (ltb-false Byte 16 e) (untold-between Byte untold .1) in
+          let eight : toldOf (driverOf (gate (rowKind rows s) (rowPins rows s)) (kept (ofCode Byte) (Byte / 8 - 2))) ≡ 8 =
+          sym (λ i. toldOf (driverOf (signalOf rows s (known-small Byte (untold-between Byte untold .0) i)) (cell i))) ∙ sym marked ∙ untold
+          in
+          ap (driverOf (gate (rowKind rows s) (rowPins rows s))) cell ∙ seen (only _) _ _ eight
 
-  pub arrived : (cells : List ℕ) → cells ≡ put entry s (kept (ofCode b) (nextOf b)) → Arrived rows known s w waiter entry (b % 8) (b / 8 - 16) cells
+  pub arrived : (cells : List ℕ) → cells ≡ put (cellsIn rows bytes) s (kept (ofCode b) (b / 8 - 2))
+      → Arrived rows (knownIn bytes) s w waiter (cellsIn rows bytes) (b % 8) (b / 8 - 2) cells
   unfolding takePin ofCode
   arrived cells written =
       record {
@@ -135,13 +160,13 @@ module _ (rows known : List ℕ) (s w waiter : ℕ) (entry : List ℕ) (untold :
             let e : b % 8 % 8 ≡ b % 8 = omega arith in
             rw (e, written)
             (sym
-            (ap (λ d. fetch (visit (sourceFrom rows known) (suc n)) s d w (waitingOf waiter) entry) driver-is
-            ∙ visit-gate (sourceFrom rows known) n s (rowKind rows s) (rowPins rows s) (ofCode b) (nextOf b) w (waitingOf waiter) entry
-            (source-gate rows known s searched)));
+            (ap (λ d. fetch (visit (sourceFrom rows (knownIn bytes)) (suc n)) s d w (waitingOf waiter) (cellsIn rows bytes)) driver-is
+            ∙ visit-gate (sourceFrom rows (knownIn bytes)) n s (rowKind rows s) (rowPins rows s) (ofCode b) (b / 8 - 2) w (waitingOf waiter)
+            (cellsIn rows bytes) (source-gate rows (knownIn bytes) s searched)));
       }
 
 -- the possible set of a gate whose pins are counted
-counted-set : (rows : List ℕ) (s : ℕ) (p : Class) (next : ℕ)
+pub counted-set : (rows : List ℕ) (s : ℕ) (p : Class) (next : ℕ)
     → possibleOf (rowKind rows s) p (drop next (rowPins rows s))
     ≡ possible (opOf (rowKind rows s)) (inverts (rowKind rows s)) p (ltb next (countIn (wordIn rows s)))
 unfolding possibleOf
@@ -154,19 +179,19 @@ module _ (rows known : List ℕ) (s w waiter p₀ next₀ : ℕ) (cells₀ : Lis
   Found = checks (possible (opOf (rowKind rows s)) (inverts (rowKind rows s)) (ofCode p) (ltb next (countIn (wordIn rows s)))) w (waitingOf waiter)
 
   -- what ends the rest ends the visit
-  ends : (entry : List ℕ) → Arrived rows known s w waiter entry p₀ next₀ cells₀ → (after tally : List ℕ) (r : ℕ) → tally ≡ tallyOf after
-      → ((n : ℕ) → s ≤ n → (r, after) ≡ endedOf (waitingOf waiter) (leftOf rows known s w waiter n p next cells)) → Takes rows known s w waiter entry after tally r
-  ends entry begun after tally r tallied e = record { is = is; tallied = tallied }
+  ends : (entry : List ℕ) → Arrived rows known s w waiter entry p₀ next₀ cells₀ → (after : List ℕ) (r : ℕ)
+      → ((n : ℕ) → s ≤ n → (r, after) ≡ endedOf (waitingOf waiter) (leftOf rows known s w waiter n p next cells)) → Ends rows known s w waiter entry after r
+  ends entry begun after r e = is
     where
       is : (n : ℕ) → s < n → (r, after) ≡ endedOf (waitingOf waiter) (wholeOf rows known s w waiter n entry)
       is zero less = absurd (omega arith)
       is (suc n) less = e n (omega arith) ∙ ap (endedOf (waitingOf waiter)) (rest .is n (omega arith) ∙ begun .is n (omega arith))
 
-  pub rest-ends : (entry : List ℕ) → Arrived rows known s w waiter entry p₀ next₀ cells₀ → ended Found ≡ true → (tally : List ℕ) → tally ≡ tallyOf cells → (r : ℕ) → r ≡ checkOf (waitingOf waiter) Found
-      → Takes rows known s w waiter entry cells tally r
-  rest-ends entry begun over tally tallied r h =
+  pub rest-ends : (entry : List ℕ) → Arrived rows known s w waiter entry p₀ next₀ cells₀ → ended Found ≡ true → (r : ℕ) → r ≡ checkOf (waitingOf waiter) Found
+      → Ends rows known s w waiter entry cells r
+  rest-ends entry begun over r h =
       let found = ended-by Found over in
-      ends entry begun cells tally r tallied
+      ends entry begun cells r
       (λ n less.
       ap (λ r. (r, cells)) (h ∙ ap (checkOf (waitingOf waiter)) (found .1))
       ∙ ap (endedOf (waitingOf waiter))
@@ -175,11 +200,11 @@ module _ (rows known : List ℕ) (s w waiter p₀ next₀ : ℕ) (cells₀ : Lis
       (drop next (rowPins rows s)) (ofCode p) next cells (found .0) (rw (counted-set rows s (ofCode p) next) (found .1)))))
 
   -- the next pin is on signal x, and is taken
-  module _ (on : ended Found ≡ false) (less : next < countIn (wordIn rows s)) (x wanted waits-as : ℕ) (counted after tally : List ℕ) (r : ℕ)
+  module _ (on : ended Found ≡ false) (less : next < countIn (wordIn rows s)) (x wanted waits-as : ℕ) (counted after : List ℕ) (r : ℕ)
       (pin : x ≡ getD (rowPins rows s) next 0) (below : x < s)
       (wants : wanted ≡ wantedFor (opOf (rowKind rows s)) (inverts (rowKind rows s)) (ofCode p) (ltb (next + 1) (countIn (wordIn rows s))) w)
       (waiting : waitingOf waits-as ≡ waits (opOf (rowKind rows s)) (ofCode p)) (writes : counted ≡ put cells s (kept (ofCode p) (next + 1)))
-      (takes : Takes rows known x wanted waits-as counted after tally r) where
+      (taking : Ends rows known x wanted waits-as counted after r) where
     abbrev Behind : ℕ → Ended
     Behind n =
         takePin (sourceFrom rows known) (visit (sourceFrom rows known) n) (getD (rowPins rows s) next 0)
@@ -188,7 +213,7 @@ module _ (rows known : List ℕ) (s w waiter p₀ next₀ : ℕ) (cells₀ : Lis
 
     behind-is : (n : ℕ) → s ≤ n → (r, after) ≡ endedOf (waits (opOf (rowKind rows s)) (ofCode p)) (Behind n)
     behind-is n h =
-        takes .is n (omega arith)
+        taking n (omega arith)
         ∙ rw (waiting, pin, wants, writes, left-is (suc next) (rowPins rows s), pins-length rows s, add-one next)
 
     -- the rest, by the number of the visit behind the pin
@@ -211,30 +236,8 @@ module _ (rows known : List ℕ) (s w waiter p₀ next₀ : ℕ) (cells₀ : Lis
     unfolding goesOn
     rest-next small = record { is = λ n h. rw (add-one next) (sym (rw (lt-ltb r 8 small) at (taken n h)) ∙ rest .is n h) }
 
-    pub rest-stopped : r ≡ 8 → (entry : List ℕ) → Arrived rows known s w waiter entry p₀ next₀ cells₀ → Takes rows known s w waiter entry after tally 8
+    pub rest-stopped : r ≡ 8 → (entry : List ℕ) → Arrived rows known s w waiter entry p₀ next₀ cells₀ → Ends rows known s w waiter entry after 8
     unfolding goesOn
     rest-stopped stop entry begun =
-        ends entry begun after tally 8 (takes .tallied)
+        ends entry begun after 8
         (λ n h. ap (λ r. (r, after)) (sym (stops (waitingOf waiter))) ∙ ap (endedOf (waitingOf waiter)) (sym (rw stop at (taken n h))))
-
--- a gate's next pin on arrival is that of its cell
-pub begun-next : (g b : ℕ) → nextOf (begunFrom g b) ≡ nextOf b
-unfolding begunFrom
-begun-next g b = go (ltb b 128) refl
-  where
-    go : (t : Bool) → ltb b 128 ≡ t → nextOf (cond t (byteOf (kept (unit (opAt g)) 0)) b) ≡ nextOf b
-    go true e = let less = ltb-true b 128 e in nextOf-byteOf (unit (opAt g)) 0 ∙ omega arith
-    go false e = refl
-
-pub begun-old : (g b : ℕ) → 128 ≤ begunFrom g b
-unfolding begunFrom
-begun-old g b = go (ltb b 128) refl
-  where
-    go : (t : Bool) → ltb b 128 ≡ t → 128 ≤ cond t (byteOf (kept (unit (opAt g)) 0)) b
-    go true e = omega arith
-    go false e = ltb-false b 128 e
-
--- a pin is left where the visit goes on
-pub pin-left : (left stop : Bool) → cond left stop true ≡ false → left ≡ true
-pin-left true stop e = refl
-pin-left false stop e = absurd (false≢true (sym e))

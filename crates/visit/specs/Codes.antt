@@ -1,11 +1,11 @@
 -- What the code's numbers say of waiting gates, visits' ends and what stands behind a pin.
-use Prim.Native.Nat.{ℕ, _/_}
+use Prim.Native.Nat.{ℕ, _+_, _*_, _/_, _%_}
 use mathlib.Core.Bool.{cond}
 use mathlib.Core.Option.{Option, none, some}
 use lib.Dec.{ltb}
 use Rattle.kung.specs.Class.{Class, code, ofCode}
 use Rattle.kung.specs.Operation.{opAt, join, unit}
-use Rattle.search.specs.Search.{kept, byteOf, Waiting, nobody, waits, Outcome, stopped, known, unfinished, Driver, told, behind}
+use Rattle.search.specs.Search.{Waiting, nobody, waits, Outcome, stopped, known, unfinished, Driver, told, behind}
 use Rattle.visit.specs.declared.Verdict.{Verdict}
 use Rattle.visit.specs.declared.Verdict.the-variants.{Clean, Hazardous}
 
@@ -38,9 +38,20 @@ abbrev pub toldOf : Driver → ℕ
 toldOf (told k) = code k
 toldOf (behind p next) = 8
 
--- the cell of a gate on arrival, by its word's last bits and what its cell is before: "`1` for AND-like kinds at first and `0` for OR and NOR"
-unfoldable pub begunFrom : (gate cell : ℕ) → ℕ
-begunFrom gate cell = cond (ltb cell 128) (byteOf (kept (unit (opAt gate)) 0)) cell
+-- a gate's byte on arrival, by its word's last bits and its byte before: "`1` for AND-like kinds at first and `0` for OR and NOR"
+unfoldable pub begunFrom : (gate byte : ℕ) → ℕ
+begunFrom gate b = cond (ltb b 16) (16 + code (unit (opAt gate))) b
+
+-- a gate's byte at a visit's end: known, or unfinished
+abbrev pub knownMark : (class next : ℕ) → ℕ
+knownMark class next = 128 + 8 * next + class
+
+abbrev pub openMark : (p next : ℕ) → ℕ
+openMark p next = 16 + 8 * next + p % 8
+
+-- by its class, 8 where it is not known
+abbrev pub markOf : (class p next : ℕ) → ℕ
+markOf class p next = cond (ltb class 8) (knownMark class next) (openMark p next)
 
 -- "If the output's gate becomes known, it is clean."
 abbrev pub verdictFrom : (ending : ℕ) → Verdict

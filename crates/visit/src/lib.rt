@@ -1,21 +1,22 @@
 // CORE's cycle of visits: the search of one signal.
 ghost use mathlib.Core.Path.{_≡_};
-ghost use mathlib.Core.Bool.{cond, true};
-ghost use Prim.Native.Nat.{_+_, _*_, _/_, _≤_, _<_};
+ghost use mathlib.Core.Bool.{cond};
+ghost use Prim.Native.Nat.{_+_, _*_, _/_, _%_, _≤_, _<_};
 ghost use lib.Dec.{eqb, ltb};
-ghost use lib.ListN.{length, getD};
-ghost use Rattle.kung.specs.Class.{ofCode};
-ghost use Rattle.kung.specs.Operation.{opAt};
-ghost use Rattle.kung.specs.Sets.{has, possible};
-ghost use Rattle.kung.specs.Tables.{imageTable, preimage};
-ghost use Rattle.kung.specs.Lookup.{lookupTable};
-ghost use Rattle.rows.specs.Rows.{countIn, gateIn, invertsIn, pinIn};
-ghost use Rattle.search.specs.Search.{kept, nextOf, put, fresh, only, sameResult, waits, checks, judged, search};
+ghost use lib.ListN.{length, getD, set};
+ghost use Rattle.kung.specs.Class.{code, ofCode};
+ghost use Rattle.kung.specs.Operation.{opAt, invertIf};
+ghost use Rattle.kung.specs.Sets.{has};
+ghost use Rattle.kung.specs.Tables.{preimage};
+ghost use Rattle.kung.specs.Lookup.{searchTable, joinedBy};
+ghost use Rattle.rows.specs.Rows.{countIn, gateIn, pinIn};
+ghost use Rattle.search.specs.Search.{only, sameResult, waits, checks, judged, search};
 ghost use Rattle.visit.specs.Source.{sourceFrom};
-ghost use Rattle.visit.specs.Found.{verdictCode, foundOf, cellsLeft};
-ghost use Rattle.visit.specs.Lent.{GatesOnly, SearchReady};
-ghost use Rattle.visit.specs.Codes.{waitingOf, codeOr, checkOf, verdictFrom};
-ghost use Rattle.visit.specs.Visits.{Lends, Writes, Arrives, Takes, toldAt};
+ghost use Rattle.visit.specs.Found.{verdictCode, foundOf};
+ghost use Rattle.visit.specs.Lent.{SearchReady};
+ghost use Rattle.visit.specs.Codes.{waitingOf, codeOr, checkOf, begunFrom, knownMark, openMark, markOf, verdictFrom};
+ghost use Rattle.visit.specs.Cells.{knownOf, knownIn, toldIn};
+ghost use Rattle.visit.specs.Visits.{Lends, Takes};
 use kung::image_of;
 use kung::joined_by;
 use kung::only_class;
@@ -88,187 +89,187 @@ fn goal_of(left: bool, reach: u8, want: u8) -> u8
     if left { reach } else { want }
 }
 
-// Whether the checks end the visit: always where no pin is left, else by the stop bits.
-fn is_over(stop: u8, p: u8, left: bool) -> bool
-    ensures { λ r. ⌜ r ≡ cond left (has stop (ofCode p)) true ⌝ }
+fn has_class(set: u8, class: u8) -> bool
+    ensures { λ r. ⌜ r ≡ has set (ofCode class) ⌝ }
 {
-    if left {
-        (stop >> (p % 8)) % 2 == 1
-    } else {
-        true
-    }
+    (set >> (class % 8)) % 2 == 1
 }
 
-// A visited gate's cell is written.
-fn keep(cells: &mut [u8], s: usize, p: u8, next: u8)
-    requires { ⌜ (s < length (now cells)) × (next < 16) ⌝ }
-    ensures { λ r. ⌜ now (cells .exit) ≡ put (now (cells .entry)) s (kept (ofCode p) next) ⌝ }
+// The class of a gate whose pins are all taken: p, inverted where the gate inverts.
+fn class_of(gate: u8, p: u8) -> u8
+    requires { ⌜ gate < 4 ⌝ }
+    ensures { λ r. ⌜ r ≡ code (invertIf (eqb (gate / 2) 1) (ofCode p)) ⌝ }
 {
-    cells[s] = 128 + 8 * next + p % 8;
+    (p % 8) ^ (gate / 2)
 }
 
-// A gate that is new counts as visited on arrival, and starts from its unit. Its cell.
+// A gate that is new counts as visited on arrival, and starts from its unit. Its byte.
 fn arrive(cells: &mut [u8], tally: &mut [u16; 2], s: usize, gate: u8) -> u8
-    requires { ⌜ Lends s (now cells) (now tally) ⌝ }
-    ensures { λ r. ⌜ Arrives s gate (now (cells .entry)) (now (cells .exit)) (now (tally .exit)) r ⌝ }
+    requires { ⌜ (s < length (now cells)) × (getD (now tally) 0 0 ≤ 2304) ⌝ }
+    ensures byte { λ r. ⌜ r ≡ begunFrom gate (getD (now (cells .entry)) s 0) ⌝ }
+    ensures cells { λ r. ⌜ now (cells .exit) ≡ set (now (cells .entry)) s r ⌝ }
+    ensures tally { λ r. ⌜ now (tally .exit) ≡ set (now (tally .entry)) 0 (getD (now (tally .entry)) 0 0 + cond (ltb (getD (now (cells .entry)) s 0) 16) 1 0) ⌝ }
 {
     let cell = cells[s];
-    if 128 <= cell {
+    if 16 <= cell {
         return cell;
     }
-    let begun = 129 - gate % 2;
+    let begun = 17 - gate % 2;
     tally[0] = tally[0] + 1;
     cells[s] = begun;
     begun
 }
 
-// A pin counts as taken before the visit behind it.
-fn count_pin(cells: &mut [u8], tally: &mut [u16; 2], s: usize, p: u8, next: u8)
-    requires { ⌜ Lends s (now cells) (now tally) ⌝ }
-    requires { ⌜ (128 ≤ getD (now cells) s 0) × (nextOf (getD (now cells) s 0) + 1 ≡ next) × (next < 16) ⌝ }
-    ensures { λ r. ⌜ Writes s (ofCode p) next (now (cells .entry)) (now (cells .exit)) (now (tally .exit)) ⌝ }
+// The byte of a known gate, and of an unfinished one.
+fn known_mark(class: u8, next: u8) -> u8
+    requires { ⌜ (class < 8) × (next ≤ 13) ⌝ }
+    ensures { λ r. ⌜ r ≡ knownMark class next ⌝ }
 {
-    tally[1] = tally[1] + 1;
-    keep(cells, s, p, next);
+    128 + 8 * next + class
+}
+
+fn open_mark(p: u8, next: u8) -> u8
+    requires { ⌜ (p < 8) × (next ≤ 13) ⌝ }
+    ensures { λ r. ⌜ r ≡ openMark p next ⌝ }
+{
+    16 + 8 * next + p
+}
+
+// A gate's byte, by its class, 8 where it is not known. Without `open_mark`: with it the compiler folds the ends of a visit into one, which costs 10 %.
+fn mark_of(class: u8, p: u8, next: u8) -> u8
+    requires { ⌜ next ≤ 13 ⌝ }
+    ensures { λ r. ⌜ r ≡ markOf class p next ⌝ }
+{
+    if class < 8 {
+        known_mark(class, next)
+    } else {
+        16 + 8 * next + p % 8
+    }
+}
+
+// At a visit's end the gate's byte is written, and the pins count that the visit took.
+fn leave(cells: &mut [u8], tally: &mut [u16; 2], s: usize, byte: u8, taken: u8)
+    requires { ⌜ (s < length (now cells)) × (getD (now tally) 1 0 ≤ 36864) ⌝ }
+    ensures cells { λ r. ⌜ now (cells .exit) ≡ set (now (cells .entry)) s byte ⌝ }
+    ensures tally { λ r. ⌜ now (tally .exit) ≡ set (now (tally .entry)) 1 (getD (now (tally .entry)) 1 0 + taken) ⌝ }
+{
+    tally[1] = tally[1] + taken as u16;
+    cells[s] = byte;
 }
 
 // Check (c): the one result that the waiting gate gets of any class of the set, or 8.
-fn same_result_of(images: &[u8; 4096], waiter: u8, set: u8) -> u8
-    requires { ⌜ now images ≡ imageTable ⌝ }
+fn same_result_of(table: &[u8; 4876], waiter: u8, set: u8) -> u8
+    requires { ⌜ now table ≡ searchTable ⌝ }
     ensures { λ r. ⌜ r ≡ codeOr (sameResult (waitingOf waiter) set) ⌝ }
 {
     if waiter < NOBODY {
-        only_class(image_of(images, waiter / 8, waiter, set))
+        only_class(image_of(table, waiter / 8, waiter, set))
     } else {
         8
     }
 }
 
-// The checks of a gate whose visit they end, in order.
-fn check_gate(
-    images: &[u8; 4096],
-    lookup: &[u8; 780],
-    gate: u8,
-    p: u8,
-    left: bool,
-    wanted: u8,
-    waiter: u8,
-) -> u8
-    requires { ⌜ (now images ≡ imageTable) × (now lookup ≡ lookupTable) × (waiter < 17) ⌝ }
-    ensures { λ r. ⌜ r ≡ checkOf (waitingOf waiter) (checks (possible (opAt gate) (eqb (gate / 2) 1) (ofCode p) left) wanted (waitingOf waiter)) ⌝ }
+// The checks (a), (b) and (c) of a possible set, in order; `class` is its only one, or 8.
+fn check_set(table: &[u8; 4876], set: u8, class: u8, wanted: u8, waiter: u8) -> u8
+    requires { ⌜ (now table ≡ searchTable) × (waiter < 17) × (class ≡ codeOr (only set)) ⌝ }
+    ensures { λ r. ⌜ r ≡ checkOf (waitingOf waiter) (checks set wanted (waitingOf waiter)) ⌝ }
 {
-    let set = possible_set(images, gate, gate / 2 == 1, p, left);
-    let class = only_class(set);
     if set & wanted == 0 {
         return STOPPED;
     }
     if class < 8 {
-        return joined_by(lookup, waiter, class);
+        return joined_by(table, waiter, class);
     }
-    same_result_of(images, waiter, set)
+    same_result_of(table, waiter, set)
 }
 
-// The class of a visited gate whose possible set has one, or 8.
-fn told_by(images: &[u8; 4096], word: u16, cell: u8) -> u8
-    requires { ⌜ (now images ≡ imageTable) × (128 ≤ cell) × (countIn word ≤ 8) ⌝ }
-    ensures { λ r. ⌜ r ≡ codeOr (only (possible (opAt word) (invertsIn word) (ofCode cell) (ltb (nextOf cell) (countIn word)))) ⌝ }
+// Of a gate whose class is known (a) and (b) are left.
+fn check_known(table: &[u8; 4876], class: u8, wanted: u8, waiter: u8) -> u8
+    requires { ⌜ (now table ≡ searchTable) × (waiter < 17) ⌝ }
+    ensures { λ r. ⌜ r ≡ cond (has wanted (ofCode class)) (code (joinedBy waiter (ofCode class))) 8 ⌝ }
 {
-    let gate = gate_in(word);
-    let left = cell / 8 - 16 < count_in(word);
-    only_class(possible_set(images, gate, gate / 2 == 1, cell, left))
+    if has_class(wanted, class) {
+        joined_by(table, waiter, class)
+    } else {
+        STOPPED
+    }
 }
 
-// What is told of signal x's class without a visit, or 8.
-fn told_at(images: &[u8; 4096], rows: &[u16], known: &[u8], cells: &[u8], x: usize) -> u8
-    requires { ⌜ (now images ≡ imageTable) × GatesOnly (now rows) (now known) ⌝ }
-    requires { ⌜ (x < length (now known)) × (x < length (now cells)) ⌝ }
-    ensures { λ r. ⌜ r ≡ toldAt (now (rows .entry)) (now (known .entry)) (now (cells .entry)) x ⌝ }
+// Whether a byte tells its signal's class, which is its last digit then.
+fn is_told(byte: u8) -> bool
+    ensures { λ r. ⌜ r ≡ ltb (toldIn byte) 8 ⌝ }
 {
-    let class = known[x];
-    if class < 8 {
-        return class;
-    }
-    let cell = cells[x];
-    if cell < 128 {
-        return 8;
-    }
-    told_by(images, word_of(rows, x), cell)
+    if byte < 8 { true } else { 128 <= byte }
 }
 
-// A visit of signal s, of whose class nothing is told: its gate's pins are taken in turn, until the checks end the visit.
+// A visit of signal s, of whose class nothing is told: its gate's pins are taken in turn, until none is left or the checks end the visit.
 fn visit(
-    images: &[u8; 4096],
-    lookup: &[u8; 780],
+    table: &[u8; 4876],
     rows: &[u16],
-    known: &[u8],
     cells: &mut [u8],
     tally: &mut [u16; 2],
     s: usize,
     wanted: u8,
     waiter: u8,
 ) -> u8
-    requires { ⌜ SearchReady (now images) (now lookup) (now rows) (now known) ⌝ }
-    requires { ⌜ Lends s (now cells) (now tally) × (toldAt (now rows) (now known) (now cells) s ≡ 8) × (waiter < 17) ⌝ }
-    ensures { λ r. ⌜ Takes (now (rows .entry)) (now (known .entry)) s wanted waiter (now (cells .entry)) (now (cells .exit)) (now (tally .exit)) r ⌝ }
+    requires { ⌜ SearchReady (now table) (now rows) (knownIn (now cells)) ⌝ }
+    requires { ⌜ Lends (now rows) s (now cells) (now tally) × (toldIn (getD (now cells) s 0) ≡ 8) × (waiter < 17) ⌝ }
+    ensures { λ r. ⌜ Takes (now (rows .entry)) s wanted waiter (now (cells .entry)) (now (cells .exit)) (now (tally .exit)) r ⌝ }
 {
     let word = word_of(rows, s);
     let gate = gate_in(word);
     let count = count_in(word);
     let want = swapped(gate / 2 == 1, wanted);
-    let reach = reach_of(lookup, gate, want);
-    let stop = stop_bits(lookup, waiter, gate, reach);
-    let cell = arrive(cells, tally, s, gate);
-    let mut p = cell % 8;
-    let mut next = cell / 8 - 16;
+    let reach = reach_of(table, gate, want);
+    let stop = stop_bits(table, waiter, gate, reach);
+    let begun = arrive(cells, tally, s, gate);
+    let mut p = begun % 8;
+    let mut next = begun / 8 - 2;
+    let first = next;
     loop {
-        if is_over(stop, p, next < count) {
-            return check_gate(images, lookup, gate, p, next < count, wanted, waiter);
+        if count <= next {
+            let class = class_of(gate, p);
+            leave(cells, tally, s, known_mark(class, next), next - first);
+            return check_known(table, class, wanted, waiter);
+        }
+        if has_class(stop, p) {
+            let set = possible_set(table, gate, gate / 2 == 1, p, true);
+            let class = only_class(set);
+            leave(cells, tally, s, mark_of(class, p, next), next - first);
+            return check_set(table, set, class, wanted, waiter);
         }
         let x = pin_at(rows, s, next);
         next += 1;
-        count_pin(cells, tally, s, p, next);
         let goal = goal_of(next < count, reach, want);
-        let ending = take(
-            images,
-            lookup,
-            rows,
-            known,
-            cells,
-            tally,
-            x,
-            waiter_of(gate, p),
-            goal,
-        );
+        let ending = take(table, rows, cells, tally, x, waiter_of(gate, p), goal);
         if ending == STOPPED {
+            leave(cells, tally, s, open_mark(p, next), next - first);
             return STOPPED;
         }
         p = ending;
-        keep(cells, s, p, next);
     }
 }
 
 // A pin on signal x is taken: the gate behind it is visited, unless its class is told.
 fn take(
-    images: &[u8; 4096],
-    lookup: &[u8; 780],
+    table: &[u8; 4876],
     rows: &[u16],
-    known: &[u8],
     cells: &mut [u8],
     tally: &mut [u16; 2],
     x: usize,
     waiter: u8,
     goal: u8,
 ) -> u8
-    requires { ⌜ SearchReady (now images) (now lookup) (now rows) (now known) ⌝ }
-    requires { ⌜ Lends x (now cells) (now tally) × (x < length (now known)) × (waiter < 16) ⌝ }
-    ensures { λ r. ⌜ Takes (now (rows .entry)) (now (known .entry)) x (preimage (opAt (waiter / 8)) (ofCode waiter) goal) waiter (now (cells .entry)) (now (cells .exit)) (now (tally .exit)) r ⌝ }
+    requires { ⌜ SearchReady (now table) (now rows) (knownIn (now cells)) ⌝ }
+    requires { ⌜ Lends (now rows) x (now cells) (now tally) × (waiter < 16) ⌝ }
+    ensures { λ r. ⌜ Takes (now (rows .entry)) x (preimage (opAt (waiter / 8)) (ofCode waiter) goal) waiter (now (cells .entry)) (now (cells .exit)) (now (tally .exit)) r ⌝ }
 {
-    let class = told_at(images, rows, known, cells, x);
-    if class < 8 {
-        return joined_by(lookup, waiter, class);
+    let byte = cells[x];
+    if is_told(byte) {
+        return joined_by(table, waiter, byte);
     }
-    let wanted = preimage_of(lookup, waiter, goal);
-    visit(images, lookup, rows, known, cells, tally, x, wanted, waiter)
+    let wanted = preimage_of(table, waiter, goal);
+    visit(table, rows, cells, tally, x, wanted, waiter)
 }
 
 fn wide(x: u16) -> usize
@@ -277,21 +278,21 @@ fn wide(x: u16) -> usize
     x as usize
 }
 
-fn clear(cells: &mut [u8])
-    ensures { λ r. ⌜ now (cells .exit) ≡ fresh (length (now (cells .entry))) ⌝ }
+fn known_of(byte: u8) -> u8
+    ensures { λ r. ⌜ r ≡ knownOf byte ⌝ }
+{
+    if byte < 8 { byte } else { 8 }
+}
+
+// What was known before the search is left.
+fn reset(cells: &mut [u8])
+    ensures { λ r. ⌜ now (cells .exit) ≡ knownIn (now (cells .entry)) ⌝ }
 {
     let mut i: usize = 0;
     while i < cells.len() {
-        cells[i] = 0;
+        cells[i] = known_of(cells[i]);
         i += 1;
     }
-}
-
-fn has_class(set: u8, class: u8) -> bool
-    requires { ⌜ class < 8 ⌝ }
-    ensures { λ r. ⌜ r ≡ has set (ofCode class) ⌝ }
-{
-    (set >> class) % 2 == 1
 }
 
 // A class that is known without a visit, judged against the wanted set.
@@ -316,20 +317,11 @@ fn verdict_of(ending: u8) -> Verdict
     }
 }
 
-// The search of signal s. Each call starts afresh, whatever the lent cells hold, and leaves in them what the visit kept.
-pub fn find(
-    images: &[u8; 4096],
-    lookup: &[u8; 780],
-    rows: &[u16],
-    known: &[u8],
-    cells: &mut [u8],
-    wanted: u8,
-    s: usize,
-) -> Found
-    requires { ⌜ SearchReady (now images) (now lookup) (now rows) (now known) ⌝ }
-    requires { ⌜ (s < length (now known)) × (s < length (now cells)) ⌝ }
+// The search of signal s. Each call starts afresh, and leaves the lent bytes as they were.
+pub fn find(table: &[u8; 4876], rows: &[u16], known: &mut [u8], wanted: u8, s: usize) -> Found
+    requires { ⌜ SearchReady (now table) (now rows) (now known) × (s < length (now known)) ⌝ }
     ensures found { λ r. ⌜ r ≡ foundOf (search (sourceFrom (now (rows .entry)) (now (known .entry))) wanted s) ⌝ }
-    ensures cells { λ r. ⌜ now (cells .exit) ≡ cellsLeft (sourceFrom (now (rows .entry)) (now (known .entry))) wanted s (now (cells .entry)) ⌝ }
+    ensures known { λ r. ⌜ now (known .exit) ≡ now (known .entry) ⌝ }
 {
     let class = known[s];
     if class < 8 {
@@ -340,19 +332,8 @@ pub fn find(
         };
     }
     let mut tally: [u16; 2] = [0; 2];
-    let reached = &mut cells[..s + 1];
-    clear(reached);
-    let ending = visit(
-        images,
-        lookup,
-        rows,
-        known,
-        reached,
-        &mut tally,
-        s,
-        wanted,
-        NOBODY,
-    );
+    let ending = visit(table, rows, known, &mut tally, s, wanted, NOBODY);
+    reset(&mut known[..s + 1]);
     Found {
         verdict: verdict_of(ending),
         gates: wide(tally[0]),

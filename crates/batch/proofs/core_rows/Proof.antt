@@ -3,8 +3,8 @@
 use Prim.Native.Nat.{ℕ, _+_, _-_, _*_, _≤_}
 use native.Mathlib.Omega.{arith}
 use mathlib.Core.Path.{_≡_, refl, sym, _∙_, ap}
-use mathlib.Core.List.{List}
-use lib.ListN.{length, take}
+use mathlib.Core.List.{List, _++_}
+use lib.ListN.{length, take, drop, take-append-drop}
 use Rattle.netlist.specs.Netlist.{inputsOf, gatesOf}
 use Rattle.changes.specs.Changes.{widthOf, inputClassAt}
 use Rattle.changes.specs.Lent.{Accepts, signalsOf}
@@ -14,7 +14,7 @@ use Rattle.visit.specs.Lent.{inputsKnown}
 use Rattle.core.proofs.Entry.{known-is, known-all}
 use Rattle.batch.specs.declared.Judged.the-variants.{Done}
 use Rattle.batch.specs.Batch.{coreSum, coreOf}
-use Rattle.batch.specs.Lent.{CellRoom, rowed}
+use Rattle.batch.specs.Lent.{KnownRoom, rowed}
 use Rattle.batch.proofs.Rows.{Regular, lent-room, rowed-none, rowed-kept, rowed-room, rowed-next}
 use Rattle.batch.proofs.Changes.{Counted, counted-none, counted-next, card, core-regular, searched-high, room-next, searchable, sums-are, bytes-are}
 use borrow.Author.Needs.{needs}
@@ -22,12 +22,12 @@ use Rattle.batch.proofs.core_rows.Statement.{statement}
 use Rattle.batch.proofs.core_rows.Tie as tie
 
 abbrev Inv-loop : tie.InvT-loop
-Inv-loop netlist list task rows known₀ cells₀ buffer₀ images lookup shape signals outputs visited₀ taken₀ change₀ change-end known cells buffer visited taken change =
+Inv-loop netlist list task rows known₀ buffer₀ search shape signals outputs visited₀ taken₀ change₀ change-end known buffer visited taken change =
     (change ≤ change-end) × (buffer ≡ rowed (coreOf netlist list) change buffer₀) × Counted (coreSum (λ a. a .gates) netlist list) change visited
-    × Counted (coreSum (λ a. a .pins) netlist list) change taken × CellRoom known cells (task .shape) × (length known ≡ length known₀) × (length cells ≡ length cells₀)
+    × Counted (coreSum (λ a. a .pins) netlist list) change taken × KnownRoom known (task .shape) × (length known ≡ length known₀)
 
 abbrev μ-loop : tie.MeasureT-loop
-μ-loop netlist list task rows known₀ cells₀ buffer₀ images lookup shape signals outputs visited₀ taken₀ change₀ change-end known cells buffer visited taken change =
+μ-loop netlist list task rows known₀ buffer₀ search shape signals outputs visited₀ taken₀ change₀ change-end known buffer visited taken change =
     change-end - change
 
 -- what is lent
@@ -59,7 +59,7 @@ module _ (c : tie.Start Inv-loop μ-loop) where
 -- the rows so far leave the buffer its length
 module _ (c : tie.At-loop Inv-loop μ-loop) where
   abbrev begun : tie.Start Inv-loop μ-loop
-  begun = c .before .before .before .before .before .before .before .before .before .before .before
+  begun = c .before .before .before .before .before .before .before .before .before
 
   kept : length (c .loop .buffer) ≡ length (begun .args .buffer .now)
   kept = rowed-kept (regular begun) (task begun .changes) (c .loop .change) _ _ (begun .pre .0 .enough) (c .loop .inv .1) (c .loop .inv .0)
@@ -94,7 +94,7 @@ module _ (c : tie.After-fill-inputs Inv-loop μ-loop) where
 -- the counts with this change's
 module _ (c : tie.After-search-outputs Inv-loop μ-loop) where
   abbrev filling : tie.After-fill-inputs Inv-loop μ-loop
-  filling = c .before .before .before .before .before .before .before .before
+  filling = c .before .before .before .before .before .before
 
   abbrev l : tie.At-loop Inv-loop μ-loop
   l = at filling
@@ -117,21 +117,18 @@ module _ (c : tie.After-search-outputs Inv-loop μ-loop) where
   changes-few : task s .changes ≤ 1000
   changes-few = listed (netlist s) (list s) (given s .accepted) .changes-high
 
-images-requires : tie.Need-images-requires Inv-loop μ-loop
-images-requires c κs = search needs
-
-lookup-requires : tie.Need-lookup-requires Inv-loop μ-loop
-lookup-requires c κs = search needs
+search-requires : tie.Need-search-requires Inv-loop μ-loop
+search-requires c κs = search needs
 
 add-signals : tie.Need-add-signals Inv-loop μ-loop
 add-signals c =
-    let f = card _ _ (c .before .before .before .before .before .before .before .before .before .before .pre .0 .of .accepted) in
+    let f = card _ _ (c .before .before .before .before .before .before .before .before .pre .0 .of .accepted) in
     omega (arith, f .inputs-high, f .gates-high)
 
 loop-holds : tie.Need-loop-holds Inv-loop μ-loop
 loop-holds c =
-    let s = c .before .before .before .before .before .before .before .before .before .before in
-    (search needs, rowed-none (regular s) _, counted-none _, counted-none _, s .pre .1, refl, refl)
+    let s = c .before .before .before .before .before .before .before .before in
+    (search needs, rowed-none (regular s) _, counted-none _, counted-none _, s .pre .1, refl)
 
 mul-at : tie.Need-mul-at Inv-loop μ-loop
 mul-at c = omega (arith, room c, kept (c .before))
@@ -142,33 +139,30 @@ fill-inputs-requires c κs =
     let f = listed _ _ (given (begun (i .before)) .accepted) in
     (f .width-high, omega (arith, f .changes-high, i .loop-test .taken), omega (arith, i .before .loop .inv .4 .told))
 
-slice-reshare-prefix-search-outputs : tie.Need-slice-reshare-prefix-search-outputs Inv-loop μ-loop
-slice-reshare-prefix-search-outputs c =
-    let f = c .before .before .before .before in
+slice-relend-prefix-search-outputs : tie.Need-slice-relend-prefix-search-outputs Inv-loop μ-loop
+slice-relend-prefix-search-outputs c =
+    let f = c .before .before .before in
     omega (arith, at f .loop .inv .4 .told, f .fill-inputs .kept .1 .1 .1 .0)
 
 slice-aggregate-search-outputs : tie.Need-slice-aggregate-search-outputs Inv-loop μ-loop
-slice-aggregate-search-outputs c = sym (lent-all (c .before .before .before .before .before))
+slice-aggregate-search-outputs c = sym (lent-all (c .before .before .before .before))
 
 sub-search-outputs : tie.Need-sub-search-outputs Inv-loop μ-loop
-sub-search-outputs c = omega (arith, room (inside (c .before .before .before .before .before .before)))
+sub-search-outputs c = omega (arith, room (inside (c .before .before .before .before)))
 
 part-search-outputs-start : tie.Need-part-search-outputs-start Inv-loop μ-loop
-part-search-outputs-start c = omega (arith, room (inside (c .before .before .before .before .before .before)))
+part-search-outputs-start c = omega (arith, room (inside (c .before .before .before .before)))
 
 part-search-outputs-end : tie.Need-part-search-outputs-end Inv-loop μ-loop
 part-search-outputs-end c = omega arith
 
 search-outputs-requires : tie.Need-search-outputs-requires Inv-loop μ-loop
 search-outputs-requires c κs =
-    let f = c .before .before .before .before .before .before .before in
+    let f = c .before .before .before .before .before in
     let l = at f in
     let s = begun l in
-    let t = l .before .before .before in (
-      searchable (netlist s) (list s) (rows s) (task s) (given s) (l .loop .change) (lent f) (known f) _
-          (t .before .images .ensures) (t .lookup .ensures) (lent-room (l .loop .change * outputs s) (outputs s) (l .loop .buffer) (room (inside f))),
-      omega (arith, lent-all f, l .loop .inv .4 .told, l .loop .inv .4 .celled),
-    )
+    searchable (netlist s) (list s) (rows s) (task s) (given s) (l .loop .change) (lent f) (known f) _ (l .before .before .before .search .ensures)
+    (lent-room (l .loop .change * outputs s) (outputs s) (l .loop .buffer) (room (inside f)))
 
 add-visited : tie.Need-add-visited Inv-loop μ-loop
 add-visited c =
@@ -185,6 +179,14 @@ add-change c =
     let o = c .before .before .before .before .before .before in
     omega (arith, changes-few o, inside (filling o) .loop-test .taken)
 
+-- a search leaves what is known
+again : (c : tie.After-search-outputs Inv-loop μ-loop) → let f = filling c in
+    c .search-outputs .last .1 .1 .1 .0 ++ drop (signals (b f)) (f .fill-inputs .last .1 .1 .1 .0) ≡ f .fill-inputs .last .1 .1 .1 .0
+again c =
+    let f = filling c in
+    let filled = f .fill-inputs .last .1 .1 .1 .0 in
+    ap (λ k. k ++ drop (signals (b f)) filled) (c .search-outputs .ensures .1 .1 .1) ∙ take-append-drop (signals (b f)) filled
+
 loop-less : tie.Need-loop-less Inv-loop μ-loop
 loop-less c = search needs
 
@@ -199,20 +201,16 @@ loop-again c =
           (o .search-outputs .ensures .1 .1 .0 ∙ bytes-are (netlist s) (list s) (rows s) (task s) (given s) (l .loop .change) _ (known f) _),
       visited o,
       taken o,
-      room-next (l .loop .inv .4) (list s) (task s .width) (l .loop .change) _ _ (f .fill-inputs .ensures) (f .fill-inputs .kept .1 .1 .1 .0)
-          (o .search-outputs .kept .1 .1 .1 .1 .1 .0),
-      f .fill-inputs .kept .1 .1 .1 .0 ∙ l .loop .inv .5,
-      o .search-outputs .kept .1 .1 .1 .1 .1 .0 ∙ l .loop .inv .6,
+      room-next (l .loop .inv .4) (list s) (task s .width) (l .loop .change) (f .fill-inputs .last .1 .1 .1 .0) _ (f .fill-inputs .ensures)
+          (f .fill-inputs .kept .1 .1 .1 .0) (again o),
+      ap length (again o) ∙ f .fill-inputs .kept .1 .1 .1 .0 ∙ l .loop .inv .5,
     )
 
 same-length : tie.Need-same-length Inv-loop μ-loop
 same-length c = search needs
 
 same-length-2 : tie.Need-same-length-2 Inv-loop μ-loop
-same-length-2 c = search needs
-
-same-length-3 : tie.Need-same-length-3 Inv-loop μ-loop
-same-length-3 c = kept (c .before)
+same-length-2 c = kept (c .before)
 
 returns : tie.Need-returns Inv-loop μ-loop
 returns c =
@@ -227,13 +225,12 @@ core-rows-spec =
     (tie.spec
     Inv-loop
     μ-loop
-    images-requires
-    lookup-requires
+    search-requires
     add-signals
     loop-holds
     mul-at
     fill-inputs-requires
-    slice-reshare-prefix-search-outputs
+    slice-relend-prefix-search-outputs
     slice-aggregate-search-outputs
     sub-search-outputs
     part-search-outputs-start
@@ -246,5 +243,4 @@ core-rows-spec =
     loop-again
     same-length
     same-length-2
-    same-length-3
     returns)

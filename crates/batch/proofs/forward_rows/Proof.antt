@@ -2,8 +2,8 @@
 use Prim.Native.Nat.{ℕ, _+_, _-_, _*_, _≤_}
 use native.Mathlib.Omega.{arith}
 use mathlib.Core.Path.{_≡_, refl, sym, _∙_, ap}
-use mathlib.Core.List.{List}
-use lib.ListN.{length, take}
+use mathlib.Core.List.{List, _++_}
+use lib.ListN.{length, take, drop, take-append-drop}
 use Rattle.changes.specs.Lent.{Accepts, signalsOf}
 use Rattle.changes.specs.declared.Task.{Task}
 use Rattle.changes.proofs.Accepted.{listed}
@@ -20,12 +20,12 @@ use Rattle.batch.proofs.forward_rows.Statement.{statement}
 use Rattle.batch.proofs.forward_rows.Tie as tie
 
 abbrev Inv-loop : tie.InvT-loop
-Inv-loop netlist list task rows known₀ cells₀ buffer₀ table images lookup shape signals outputs touched₀ visited₀ change₀ change-end known cells buffer touched visited change =
+Inv-loop netlist list task rows known₀ hot₀ buffer₀ table search shape signals outputs touched₀ visited₀ change₀ change-end known hot buffer touched visited change =
     (change ≤ change-end) × (buffer ≡ rowed (forwardOf netlist list) change buffer₀) × Counted (touchedIn netlist list) change touched
-    × Counted (visitedIn netlist list) change visited × (length known ≡ length known₀) × (length cells ≡ length cells₀)
+    × Counted (visitedIn netlist list) change visited × (length known ≡ length known₀) × (length hot ≡ length hot₀)
 
 abbrev μ-loop : tie.MeasureT-loop
-μ-loop netlist list task rows known₀ cells₀ buffer₀ table images lookup shape signals outputs touched₀ visited₀ change₀ change-end known cells buffer touched visited change =
+μ-loop netlist list task rows known₀ hot₀ buffer₀ table search shape signals outputs touched₀ visited₀ change₀ change-end known hot buffer touched visited change =
     change-end - change
 
 -- what is lent
@@ -57,7 +57,7 @@ module _ (c : tie.Start Inv-loop μ-loop) where
 -- the rows so far leave the buffer its length, and the bytes for each signal
 module _ (c : tie.At-loop Inv-loop μ-loop) where
   abbrev begun : tie.Start Inv-loop μ-loop
-  begun = c .before .before .before .before .before .before .before .before .before .before .before .before
+  begun = c .before .before .before .before .before .before .before .before .before .before .before
 
   kept : length (c .loop .buffer) ≡ length (begun .args .buffer .now)
   kept = rowed-kept (regular begun) (task begun .changes) (c .loop .change) _ _ (begun .pre .0 .enough) (c .loop .inv .1) (c .loop .inv .0)
@@ -65,8 +65,8 @@ module _ (c : tie.At-loop Inv-loop μ-loop) where
   told : signals begun ≤ length (c .loop .known)
   told = omega (arith, begun .pre .1 .0, c .loop .inv .4)
 
-  celled : length (c .loop .known) ≤ length (c .loop .cells)
-  celled = omega (arith, begun .pre .1 .1, c .loop .inv .4, c .loop .inv .5)
+  hot-long : length (c .loop .known) ≤ length (c .loop .hot)
+  hot-long = omega (arith, begun .pre .1 .1, c .loop .inv .4, c .loop .inv .5)
 
 -- room for the next row
 room : (c : tie.In-loop Inv-loop μ-loop) → let o = outputs (begun (c .before)) in c .before .loop .change * o + o ≤ length (c .before .loop .buffer)
@@ -110,7 +110,7 @@ module _ (c : tie.After-spread Inv-loop μ-loop) where
 -- the gates visited with this change's
 module _ (c : tie.After-search-outputs Inv-loop μ-loop) where
   abbrev spreading : tie.After-spread Inv-loop μ-loop
-  spreading = c .before .before .before .before .before .before .before .before .before .before
+  spreading = c .before .before .before .before .before .before .before .before
 
   abbrev l : tie.At-loop Inv-loop μ-loop
   l = at spreading
@@ -131,21 +131,18 @@ module _ (c : tie.After-search-outputs Inv-loop μ-loop) where
 gate-table-requires : tie.Need-gate-table-requires Inv-loop μ-loop
 gate-table-requires c κs = search needs
 
-images-requires : tie.Need-images-requires Inv-loop μ-loop
-images-requires c κs = search needs
-
-lookup-requires : tie.Need-lookup-requires Inv-loop μ-loop
-lookup-requires c κs = search needs
+search-requires : tie.Need-search-requires Inv-loop μ-loop
+search-requires c κs = search needs
 
 add-signals : tie.Need-add-signals Inv-loop μ-loop
 add-signals c =
-    let f = card _ _ (c .before .before .before .before .before .before .before .before .before .before .before .pre .0 .of .accepted) in
+    let f = card _ _ (c .before .before .before .before .before .before .before .before .before .before .pre .0 .of .accepted) in
     omega (arith, f .inputs-high, f .gates-high)
 
 loop-holds : tie.Need-loop-holds Inv-loop μ-loop
 loop-holds c = (
   search needs,
-  rowed-none (regular (c .before .before .before .before .before .before .before .before .before .before .before)) _,
+  rowed-none (regular (c .before .before .before .before .before .before .before .before .before .before)) _,
   counted-none _,
   counted-none _,
   refl,
@@ -165,8 +162,8 @@ spread-requires : tie.Need-spread-requires Inv-loop μ-loop
 spread-requires c κs =
     let f = c .before .before .before .before .before in
     let l = f .before .before .before in (
-      l .before .before .before .before .before .gate-table .ensures,
-      filled-passable _ _ _ _ (given (begun l)) _ _ _ (f .fill-inputs .ensures) _ (told l) (omega (arith, told l, celled l)),
+      l .before .before .before .before .gate-table .ensures,
+      filled-passable _ _ _ _ (given (begun l)) _ _ _ (f .fill-inputs .ensures) _ (told l) (omega (arith, told l, hot-long l)),
     )
 
 add-touched : tie.Need-add-touched Inv-loop μ-loop
@@ -175,34 +172,30 @@ add-touched c =
     let s = b p in
     omega (arith, touched p .high, listed _ _ (given s .accepted) .changes-high, inside p .loop-test .taken)
 
-slice-reshare-prefix-search-outputs : tie.Need-slice-reshare-prefix-search-outputs Inv-loop μ-loop
-slice-reshare-prefix-search-outputs c =
-    let p = c .before .before .before .before .before .before in
+slice-relend-prefix-search-outputs : tie.Need-slice-relend-prefix-search-outputs Inv-loop μ-loop
+slice-relend-prefix-search-outputs c =
+    let p = c .before .before .before .before .before in
     omega (arith, told (at p), p .spread .kept .1 .1 .1 .1 .0, filling p .fill-inputs .kept .1 .1 .1 .0)
 
 slice-aggregate-search-outputs : tie.Need-slice-aggregate-search-outputs Inv-loop μ-loop
-slice-aggregate-search-outputs c = sym (lent-all (c .before .before .before .before .before .before .before))
+slice-aggregate-search-outputs c = sym (lent-all (c .before .before .before .before .before .before))
 
 sub-search-outputs : tie.Need-sub-search-outputs Inv-loop μ-loop
-sub-search-outputs c = omega (arith, room (inside (c .before .before .before .before .before .before .before .before)))
+sub-search-outputs c = omega (arith, room (inside (c .before .before .before .before .before .before)))
 
 part-search-outputs-start : tie.Need-part-search-outputs-start Inv-loop μ-loop
-part-search-outputs-start c = omega (arith, room (inside (c .before .before .before .before .before .before .before .before)))
+part-search-outputs-start c = omega (arith, room (inside (c .before .before .before .before .before .before)))
 
 part-search-outputs-end : tie.Need-part-search-outputs-end Inv-loop μ-loop
 part-search-outputs-end c = omega arith
 
 search-outputs-requires : tie.Need-search-outputs-requires Inv-loop μ-loop
 search-outputs-requires c κs =
-    let p = c .before .before .before .before .before .before .before .before .before in
+    let p = c .before .before .before .before .before .before .before in
     let l = at p in
     let s = begun l in
-    let t = l .before .before .before in (
-      changes.searchable (netlist s) (list s) (rows s) (task s) (given s) (l .loop .change) (l .loop .known) (told l)
-          (t .before .images .ensures) (t .lookup .ensures) (lent p) (known p) _
-          (lent-room (l .loop .change * outputs s) (outputs s) (l .loop .buffer) (room (inside p))),
-      omega (arith, lent-all p, told l, celled l, p .spread .kept .1 .1 .1 .1 .1 .0),
-    )
+    changes.searchable (netlist s) (list s) (rows s) (task s) (given s) (l .loop .change) (l .loop .known) (told l) (l .before .before .before .search .ensures)
+    (lent p) (known p) _ (lent-room (l .loop .change * outputs s) (outputs s) (l .loop .buffer) (room (inside p)))
 
 add-visited : tie.Need-add-visited Inv-loop μ-loop
 add-visited c =
@@ -213,6 +206,14 @@ add-change : tie.Need-add-change Inv-loop μ-loop
 add-change c =
     let o = c .before .before .before .before .before in
     omega (arith, changes-few o, inside (spreading o) .loop-test .taken)
+
+-- a search leaves what is known
+again : (c : tie.After-search-outputs Inv-loop μ-loop) → let p = spreading c in
+    c .search-outputs .last .1 .1 .1 .0 ++ drop (signals (b p)) (p .spread .last .1 .1 .1 .1 .0) ≡ p .spread .last .1 .1 .1 .1 .0
+again c =
+    let p = spreading c in
+    let spread = p .spread .last .1 .1 .1 .1 .0 in
+    ap (λ k. k ++ drop (signals (b p)) spread) (c .search-outputs .ensures .1 .1 .1) ∙ take-append-drop (signals (b p)) spread
 
 loop-less : tie.Need-loop-less Inv-loop μ-loop
 loop-less c = search needs
@@ -229,8 +230,8 @@ loop-again c =
           (o .search-outputs .ensures .1 .1 .0)),
       touched p,
       visited o,
-      p .spread .kept .1 .1 .1 .1 .0 ∙ filling p .fill-inputs .kept .1 .1 .1 .0 ∙ l .loop .inv .4,
-      o .search-outputs .kept .1 .1 .1 .1 .1 .0 ∙ p .spread .kept .1 .1 .1 .1 .1 .0 ∙ l .loop .inv .5,
+      ap length (again o) ∙ p .spread .kept .1 .1 .1 .1 .0 ∙ filling p .fill-inputs .kept .1 .1 .1 .0 ∙ l .loop .inv .4,
+      p .spread .kept .1 .1 .1 .1 .1 .0 ∙ l .loop .inv .5,
     )
 
 same-length : tie.Need-same-length Inv-loop μ-loop
@@ -256,15 +257,14 @@ forward-rows-spec =
     Inv-loop
     μ-loop
     gate-table-requires
-    images-requires
-    lookup-requires
+    search-requires
     add-signals
     loop-holds
     mul-at
     fill-inputs-requires
     spread-requires
     add-touched
-    slice-reshare-prefix-search-outputs
+    slice-relend-prefix-search-outputs
     slice-aggregate-search-outputs
     sub-search-outputs
     part-search-outputs-start

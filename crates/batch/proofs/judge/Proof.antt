@@ -1,6 +1,7 @@
 -- `batch::judge` meets its contract: the arrays are room for the card. Assumes nothing.
 use mathlib.Core.Path.{subst}
 use Prim.Native.Nat.{_≤_}
+use native.Mathlib.Omega.{arith}
 use Rattle.core.proofs.Rooms.{small-room, middle-room, large-room}
 use borrow.Author.Needs.{needs}
 use Rattle.batch.proofs.judge.Statement.{statement}
@@ -19,7 +20,7 @@ slice-aggregate-judge-in-3 : tie.Need-slice-aggregate-judge-in-3
 slice-aggregate-judge-in-3 c = search needs
 
 judge-in-requires : tie.Need-judge-in-requires
-judge-in-requires c κs = let t = c .before .before .before .before in small-room _ (subst (λ s. s ≤ 64) (t .before .signals-in .ensures) (t .if1 .taken))
+judge-in-requires c κs = let t = c .before .before .before .before in (small-room _ (subst (λ s. s ≤ 64) (t .before .signals-in .ensures) (t .if1 .taken)), omega arith)
 
 same-length : tie.Need-same-length
 same-length c = search needs
@@ -37,7 +38,7 @@ slice-aggregate-judge-in-6 : tie.Need-slice-aggregate-judge-in-6
 slice-aggregate-judge-in-6 c = search needs
 
 judge-in-requires-2 : tie.Need-judge-in-requires-2
-judge-in-requires-2 c κs = let t = c .before .before .before .before in middle-room _ (subst (λ s. s ≤ 512) (t .before .before .signals-in .ensures) (t .if2 .taken))
+judge-in-requires-2 c κs = let t = c .before .before .before .before in (middle-room _ (subst (λ s. s ≤ 512) (t .before .before .signals-in .ensures) (t .if2 .taken)), omega arith)
 
 same-length-2 : tie.Need-same-length-2
 same-length-2 c = search needs
@@ -55,7 +56,7 @@ slice-aggregate-judge-in-9 : tie.Need-slice-aggregate-judge-in-9
 slice-aggregate-judge-in-9 c = search needs
 
 judge-in-requires-3 : tie.Need-judge-in-requires-3
-judge-in-requires-3 c κs = large-room _
+judge-in-requires-3 c κs = (large-room _, omega arith)
 
 same-length-3 : tie.Need-same-length-3
 same-length-3 c = search needs

@@ -43,10 +43,10 @@ module _ (c : tie.After-task) where
   accepted = sym (c .before .before .before .before .decode .ensures .0) ∙ c .task .given .1
 
   given : Accepts netlist list rows task
-  given = accepts netlist list (begun .args .rows .now) (begun .args .known .now) accepted (begun .pre .room) rows (c .before .before .before .before .decode .ensures .1)
+  given = accepts netlist list (begun .args .rows .now) (begun .args .known .now) accepted (begun .pre .0 .room) rows (c .before .before .before .before .decode .ensures .1)
 
   told : signalsOf (task .shape) ≤ length (begun .args .known .now)
-  told = in-room netlist list (begun .args .rows .now) (begun .args .known .now) accepted (begun .pre .room)
+  told = in-room netlist list (begun .args .rows .now) (begun .args .known .now) accepted (begun .pre .0 .room)
 
 -- the rows of an analysis have room
 module _ (c : tie.Else1) (a : Analysis) (is : analysis (c .before .before .before .before) ≡ a) where
@@ -111,7 +111,7 @@ full-rows-requires c κs =
     let t = c .before .before .before in
     let e = t .before .before in
     let k = bound e _ (t .enum-told .given .1) in
-    (all e _ (t .enum-told .given .1), omega (arith, told k, begun k .pre .celled))
+    (all e _ (t .enum-told .given .1), omega (arith, told k, begun k .pre .1))
 
 enum-told-2 : tie.Need-enum-told-2
 enum-told-2 c = search needs
@@ -121,18 +121,18 @@ forward-rows-requires c κs =
     let t = c .before .before .before .before in
     let e = t .before .before in
     let k = bound e _ (t .enum-told2 .given .1) in
-    (all e _ (t .enum-told2 .given .1), (told k, begun k .pre .celled))
+    (all e _ (t .enum-told2 .given .1), (told k, begun k .pre .1))
 
 enum-told-3 : tie.Need-enum-told-3
 enum-told-3 c = search needs
 
 core-rows-requires : tie.Need-core-rows-requires
 core-rows-requires c κs =
-    let t = c .before .before .before .before in
+    let t = c .before .before .before in
     let e = t .before .before in
     let k = bound e _ (t .enum-told3 .given .1) in (
       all e _ (t .enum-told3 .given .1),
-      record { told = told k; celled = begun k .pre .celled; none-known = ap (drop (task k .shape .inputs)) (begun k .pre .none-known) },
+      record { told = told k; none-known = ap (drop (task k .shape .inputs)) (begun k .pre .0 .none-known) },
     )
 
 same-length-2 : tie.Need-same-length-2
@@ -183,13 +183,10 @@ same-length-11 c = search needs
 same-length-12 : tie.Need-same-length-12
 same-length-12 c = search needs
 
-same-length-13 : tie.Need-same-length-13
-same-length-13 c = search needs
-
 returns-5 : tie.Need-returns-5
 returns-5 c =
-    let r = c .before .before .before .before .before .before in
-    let t = r .before .before .before .before .before in
+    let r = c .before .before .before .before in
+    let t = r .before .before .before .before in
     answers (t .before .before) _ (t .enum-told3 .given .1) _ _ (r .core-rows .ensures)
 
 pub judge-in-spec : {M : Type 1} → statement M
@@ -223,5 +220,4 @@ judge-in-spec =
     same-length-10
     same-length-11
     same-length-12
-    same-length-13
     returns-5)

@@ -15,38 +15,29 @@ slice-aggregate-core-in c = search needs
 slice-aggregate-core-in-2 : tie.Need-slice-aggregate-core-in-2
 slice-aggregate-core-in-2 c = search needs
 
-slice-aggregate-core-in-3 : tie.Need-slice-aggregate-core-in-3
-slice-aggregate-core-in-3 c = search needs
-
 core-in-requires : tie.Need-core-in-requires
-core-in-requires c κs = let t = c .before .before .before in small-room _ (subst (λ s. s ≤ 64) (t .before .signals-in .ensures) (t .if1 .taken))
+core-in-requires c κs = let t = c .before .before in small-room _ (subst (λ s. s ≤ 64) (t .before .signals-in .ensures) (t .if1 .taken))
 
 returns : tie.Need-returns
 returns c = search needs
 
+slice-aggregate-core-in-3 : tie.Need-slice-aggregate-core-in-3
+slice-aggregate-core-in-3 c = search needs
+
 slice-aggregate-core-in-4 : tie.Need-slice-aggregate-core-in-4
 slice-aggregate-core-in-4 c = search needs
+
+core-in-requires-2 : tie.Need-core-in-requires-2
+core-in-requires-2 c κs = let t = c .before .before in middle-room _ (subst (λ s. s ≤ 512) (t .before .before .signals-in .ensures) (t .if2 .taken))
+
+returns-2 : tie.Need-returns-2
+returns-2 c = search needs
 
 slice-aggregate-core-in-5 : tie.Need-slice-aggregate-core-in-5
 slice-aggregate-core-in-5 c = search needs
 
 slice-aggregate-core-in-6 : tie.Need-slice-aggregate-core-in-6
 slice-aggregate-core-in-6 c = search needs
-
-core-in-requires-2 : tie.Need-core-in-requires-2
-core-in-requires-2 c κs = let t = c .before .before .before in middle-room _ (subst (λ s. s ≤ 512) (t .before .before .signals-in .ensures) (t .if2 .taken))
-
-returns-2 : tie.Need-returns-2
-returns-2 c = search needs
-
-slice-aggregate-core-in-7 : tie.Need-slice-aggregate-core-in-7
-slice-aggregate-core-in-7 c = search needs
-
-slice-aggregate-core-in-8 : tie.Need-slice-aggregate-core-in-8
-slice-aggregate-core-in-8 c = search needs
-
-slice-aggregate-core-in-9 : tie.Need-slice-aggregate-core-in-9
-slice-aggregate-core-in-9 c = search needs
 
 core-in-requires-3 : tie.Need-core-in-requires-3
 core-in-requires-3 c κs = large-room _
@@ -61,16 +52,13 @@ core-spec =
     signals-in-requires
     slice-aggregate-core-in
     slice-aggregate-core-in-2
-    slice-aggregate-core-in-3
     core-in-requires
     returns
+    slice-aggregate-core-in-3
     slice-aggregate-core-in-4
-    slice-aggregate-core-in-5
-    slice-aggregate-core-in-6
     core-in-requires-2
     returns-2
-    slice-aggregate-core-in-7
-    slice-aggregate-core-in-8
-    slice-aggregate-core-in-9
+    slice-aggregate-core-in-5
+    slice-aggregate-core-in-6
     core-in-requires-3
     returns-3)

@@ -25,7 +25,7 @@ use Rattle.core.proofs.core_in.Tie as tie
 -- the list is accepted, with what the match binds
 module _ (c : tie.After-task) where
   abbrev begun : tie.Start
-  begun = c .before .before .before .before .before .before .before .before .before .before .before
+  begun = c .before .before .before .before .before .before .before .before .before .before
 
   abbrev netlist : List ℕ
   netlist = begun .args .netlist .now
@@ -51,7 +51,7 @@ module _ (c : tie.After-task) where
 -- what is lent as known
 module _ (c : tie.After-fill-inputs) where
   abbrev bound : tie.After-task
-  bound = c .before .before .before .before .before .before .before .before .before .before
+  bound = c .before .before .before .before .before .before .before .before .before
 
   abbrev lent : List ℕ
   lent = take (signalsOf (task bound .shape)) (c .fill-inputs .last .1 .1 .1 .0)
@@ -73,7 +73,7 @@ module _ (c : tie.After-output-of) where
   output = begun (bound filled) .args .output
 
   inside : output < task (bound filled) .shape .outputs
-  inside = filled .before .before .before .before .if2 .left
+  inside = filled .before .before .before .if2 .left
 
   signal : c .output-of .result ≡ outputAt (netlist (bound filled)) output
   signal =
@@ -106,17 +106,14 @@ same-length-2 c = search needs
 returns-2 : tie.Need-returns-2
 returns-2 c = refused-output _ _ _ _ (accepted (c .before .before .before .before .before .before)) (c .before .before .before .if1 .left) (c .if2 .taken)
 
-images-requires : tie.Need-images-requires
-images-requires c κs = search needs
-
-lookup-requires : tie.Need-lookup-requires
-lookup-requires c κs = search needs
+search-requires : tie.Need-search-requires
+search-requires c κs = search needs
 
 fill-inputs-requires : tie.Need-fill-inputs-requires
 fill-inputs-requires c κs =
-    let k = c .before .before .before .before .before .before .before .before .before in
+    let k = c .before .before .before .before .before .before .before .before in
     let f = list-formed (netlist k) (list k) (rows k) (task k) (given k) (begun k .args .change) in
-    (f .width-high, omega (arith, f .changes-high, c .before .before .before .before .before .before .if1 .left), omega (arith, room k))
+    (f .width-high, omega (arith, f .changes-high, c .before .before .before .before .before .if1 .left), omega (arith, room k))
 
 add-signals : tie.Need-add-signals
 add-signals c =
@@ -128,26 +125,26 @@ output-of-requires : tie.Need-output-of-requires
 output-of-requires c κs =
     let f = c .before .before .before .before in
     let k = bound f in
-    omega (arith, rows-long (netlist k) (list k) (rows k) (task k) (given k) (begun k .args .change), f .before .before .before .before .if2 .left)
+    omega (arith, rows-long (netlist k) (list k) (rows k) (task k) (given k) (begun k .args .change), f .before .before .before .if2 .left)
 
 cast-s : tie.Need-cast-s
 cast-s c = search needs
 
-slice-reshare-prefix-find : tie.Need-slice-reshare-prefix-find
-slice-reshare-prefix-find c =
-    let f = c .before .before .before .before .before .before .before .before in
+slice-relend-prefix-find : tie.Need-slice-relend-prefix-find
+slice-relend-prefix-find c =
+    let f = c .before .before .before .before .before .before .before in
     omega (arith, room (bound f), f .fill-inputs .kept .1 .1 .1 .0)
 
 slice-aggregate-find : tie.Need-slice-aggregate-find
-slice-aggregate-find c = sym (all-known (c .before .before .before .before .before .before .before .before .before))
+slice-aggregate-find c = sym (all-known (c .before .before .before .before .before .before .before .before))
 
 find-requires : tie.Need-find-requires
 find-requires c κs =
-    let o = c .before .before .before .before .before in
+    let o = c .before .before .before in
     let f = filled o in
     let k = bound f in (
-      ready (netlist k) (list k) (rows k) (task k) (given k) (begun k .args .change) (f .before .before .before .images .ensures) (f .before .before .lookup .ensures) _ (known f),
-      (omega (arith, below o, all-known f), omega (arith, below o, room k, begun k .pre .celled)),
+      ready (netlist k) (list k) (rows k) (task k) (given k) (begun k .args .change) (f .before .before .search .ensures) _ (known f),
+      omega (arith, below o, all-known f),
     )
 
 guard-requires : tie.Need-guard-requires
@@ -161,22 +158,19 @@ returns-3 c = refused-list _ _ _ _ _ _ (sym (c .before .before .before .before .
 
 same-length-4 : tie.Need-same-length-4
 same-length-4 c =
-    let k = bound (filled (c .before .before .before .before .before .before .before .before .before)) in
+    let k = bound (filled (c .before .before .before .before .before .before .before)) in
     k .before .before .before .before .decode .kept .1 .1 .0
 
 same-length-5 : tie.Need-same-length-5
 same-length-5 c = search needs
 
-same-length-6 : tie.Need-same-length-6
-same-length-6 c = search needs
-
 -- the search is that of the definition
-found : (c : tie.After-find) → let o = c .before .before .before .before .before .before in
+found : (c : tie.After-find) → let o = c .before .before .before .before in
     let k = bound (filled o) in
     c .find .result ≡ foundOf (searchOf (netlist k) (list k) (begun k .args .change) (output o))
 unfolding searchOf
 found c =
-    let o = c .before .before .before .before .before .before in
+    let o = c .before .before .before .before in
     let k = bound (filled o) in
     c .find .ensures .0
     ∙ ap foundOf
@@ -186,13 +180,13 @@ found c =
 returns-4 : tie.Need-returns-4
 returns-4 c =
     let f = c .before .before .before in
-    let o = f .before .before .before .before .before .before in
+    let o = f .before .before .before .before in
     let k = bound (filled o) in
     let t = begun k .args .change in
     c .guard .ensures
     ∙ ap (guardedFound (task k .shape .pins)) (found f)
     ∙ guard-is (task k .shape .pins) (searchOf (netlist k) (list k) t (output o))
-    ∙ answers (netlist k) (list k) t (output o) (accepted k) (filled o .before .before .before .before .before .before .before .if1 .left) (inside o)
+    ∙ answers (netlist k) (list k) t (output o) (accepted k) (filled o .before .before .before .before .before .before .if1 .left) (inside o)
 
 pub core-in-spec : {M : Type 1} → statement M
 core-in-spec =
@@ -205,13 +199,12 @@ core-in-spec =
     returns
     same-length-2
     returns-2
-    images-requires
-    lookup-requires
+    search-requires
     fill-inputs-requires
     add-signals
     output-of-requires
     cast-s
-    slice-reshare-prefix-find
+    slice-relend-prefix-find
     slice-aggregate-find
     find-requires
     guard-requires
@@ -219,5 +212,4 @@ core-in-spec =
     returns-3
     same-length-4
     same-length-5
-    same-length-6
     returns-4)

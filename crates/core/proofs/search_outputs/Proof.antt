@@ -1,45 +1,48 @@
 -- `core::search_outputs` meets its contract. The loop's invariant: the first outputs are searched, their bytes written, their gates and pins summed, and
--- the cells are as the searches leave them.
--- Assumes nothing.
+-- what is known stays. Assumes nothing.
 use Prim.Native.Nat.{_-_, _*_, _≤_}
 use native.Mathlib.Omega.{arith}
-use mathlib.Core.Path.{_≡_, refl, _∙_, ap}
+use mathlib.Core.Path.{_≡_, refl, sym, _∙_, ap, subst}
 use lib.ListN.{length}
 use Rattle.changes.specs.Written.{written}
 use Rattle.changes.proofs.Laws.{written-none, written-kept}
 use Rattle.search.specs.Pins.{sumBelow}
-use Rattle.core.specs.Outputs.{byteFrom, sumFrom, cellsFrom}
-use Rattle.core.proofs.Outputs.{found-is, found-few, found-next, found-byte, cells-next}
+use Rattle.search.specs.Search as spec
+use Rattle.visit.specs.Source.{sourceFrom}
+use Rattle.visit.specs.Found.{foundOf}
+use Rattle.visit.specs.Lent.{SearchReady}
+use Rattle.core.specs.Outputs.{byteFrom, sumFrom}
+use Rattle.core.proofs.Outputs.{found-is, found-few, found-next, found-byte}
 use borrow.Author.Needs.{needs}
 use Rattle.core.proofs.search_outputs.Statement.{statement}
 use Rattle.core.proofs.search_outputs.Tie as tie
 
 abbrev Inv-loop : tie.InvT-loop
-Inv-loop images lookup rows known cells₀ buffer₀ signals gates₀ pins₀ output₀ output-end cells buffer gates pins output =
-    (output ≤ output-end) × (gates ≡ sumFrom (λ a. a .gates) rows known signals output) × (pins ≡ sumFrom (λ a. a .pins) rows known signals output)
-    × (gates ≤ 18432 * output) × (pins ≤ 18432 * output) × (buffer ≡ written buffer₀ 0 (byteFrom rows known signals) output) × (length cells ≡ length cells₀)
-    × (cells ≡ cellsFrom rows known signals output cells₀)
+Inv-loop table rows known₀ buffer₀ signals gates₀ pins₀ output₀ output-end known buffer gates pins output =
+    (output ≤ output-end) × (gates ≡ sumFrom (λ a. a .gates) rows known₀ signals output) × (pins ≡ sumFrom (λ a. a .pins) rows known₀ signals output)
+    × (gates ≤ 18432 * output) × (pins ≤ 18432 * output) × (buffer ≡ written buffer₀ 0 (byteFrom rows known₀ signals) output)
+    × (known ≡ known₀)
 
 abbrev μ-loop : tie.MeasureT-loop
-μ-loop images lookup rows known cells₀ buffer₀ signals gates₀ pins₀ output₀ output-end cells buffer gates pins output = output-end - output
+μ-loop table rows known₀ buffer₀ signals gates₀ pins₀ output₀ output-end known buffer gates pins output = output-end - output
 
 -- where the function starts
 abbrev begun : tie.At-loop Inv-loop μ-loop → tie.Start Inv-loop μ-loop
-begun c = c .before .before .before .before .before .before
+begun c = c .before .before .before .before .before
 
 -- the bytes keep their number
 kept : (c : tie.At-loop Inv-loop μ-loop) → length (c .loop .buffer) ≡ length (begun c .args .buffer .now)
-kept c = ap length (c .loop .inv .5) ∙ written-kept _ _ _ _ (omega (arith, begun c .pre .0 .enough))
+kept c = ap length (c .loop .inv .5) ∙ written-kept _ _ _ _ (omega (arith, begun c .pre .enough))
 
 add-signals : tie.Need-add-signals Inv-loop μ-loop
-add-signals c = let p = c .before .before .before .before .before .pre .0 in omega (arith, p .all-known, p .ready .few-signals)
+add-signals c = let p = c .before .before .before .before .pre in omega (arith, p .all-known, p .ready .few-signals)
 
 loop-holds : tie.Need-loop-holds Inv-loop μ-loop
-unfolding sumBelow cellsFrom
-loop-holds c = (search needs, refl, refl, search needs, search needs, written-none _ _ _, refl, refl)
+unfolding sumBelow
+loop-holds c = (search needs, refl, refl, search needs, search needs, written-none _ _ _, refl)
 
 output-of-requires : tie.Need-output-of-requires Inv-loop μ-loop
-output-of-requires c κs = omega (arith, begun (c .before) .pre .0 .listed, c .loop-test .taken)
+output-of-requires c κs = omega (arith, begun (c .before) .pre .listed, c .loop-test .taken)
 
 cast-signal : tie.Need-cast-signal Inv-loop μ-loop
 cast-signal c = search needs
@@ -48,9 +51,11 @@ find-requires : tie.Need-find-requires Inv-loop μ-loop
 find-requires c κs =
     let o = c .before in
     let l = o .before .before in
+    let a = begun l .args in
     let p = begun l .pre in
-    let below = p .0 .output-below (l .loop .output) (o .before .loop-test .taken) in
-    (p .0 .ready, (omega (arith, o .output-of .ensures), omega (arith, o .output-of .ensures, p .1, l .loop .inv .6)))
+    let same = l .loop .inv .6 in
+    let below = p .output-below (l .loop .output) (o .before .loop-test .taken) in
+    (subst (SearchReady (a .table .now) (a .rows .now)) (sym same) (p .ready), omega (arith, o .output-of .ensures, ap length same))
 
 byte-of-requires : tie.Need-byte-of-requires Inv-loop μ-loop
 byte-of-requires c κs = search needs
@@ -58,28 +63,37 @@ byte-of-requires c κs = search needs
 slice-write-buffer : tie.Need-slice-write-buffer Inv-loop μ-loop
 slice-write-buffer c =
     let l = c .before .before .before .before .before .before .before in
-    omega (arith, kept l, begun l .pre .0 .enough)
+    omega (arith, kept l, begun l .pre .enough)
+
+-- what is found, by what is known at first
+found : (c : tie.After-find Inv-loop μ-loop) → let o = c .before .before in
+    let a = begun (o .before .before) .args in
+    c .find .result ≡ foundOf (spec.search (sourceFrom (a .rows .now) (a .known .now)) 15 (o .output-of .result))
+found c =
+    let o = c .before .before in
+    let l = o .before .before in
+    c .find .ensures .0 ∙ ap (λ k. foundOf (spec.search (sourceFrom (begun l .args .rows .now) k) 15 (o .output-of .result))) (l .loop .inv .6)
 
 -- a search visits no more gates than there are signals, and takes no more than eight pins of each
 few : (c : tie.After-find Inv-loop μ-loop) → (c .find .result .gates ≤ 18432) × (c .find .result .pins ≤ 18432)
 few c =
     let o = c .before .before in
     let l = o .before .before in
-    let p = begun l .pre .0 in
+    let p = begun l .pre in
     let at = o .output-of .ensures in
     let below = p .output-below (l .loop .output) (o .before .loop-test .taken) in
-    let most = found-few _ _ _ _ _ at _ (c .find .ensures .0) (p .ready) (omega arith) in
+    let most = found-few _ _ _ _ _ at _ (found c) (p .ready) (omega arith) in
     (omega (arith, at, p .ready .few-signals, below, most .0), most .1)
 
 add-gates : tie.Need-add-gates Inv-loop μ-loop
 add-gates c =
     let f = c .before .before .before .before in
-    omega (arith, begun (f .before .before .before .before) .pre .0 .outputs-high, few f .0)
+    omega (arith, begun (f .before .before .before .before) .pre .outputs-high, few f .0)
 
 add-pins : tie.Need-add-pins Inv-loop μ-loop
 add-pins c =
     let f = c .before .before .before .before .before in
-    omega (arith, begun (f .before .before .before .before) .pre .0 .outputs-high, few f .1)
+    omega (arith, begun (f .before .before .before .before) .pre .outputs-high, few f .1)
 
 add-output : tie.Need-add-output Inv-loop μ-loop
 add-output c = search needs
@@ -92,19 +106,18 @@ loop-again c =
     let f = c .before .before .before .before .before in
     let l = f .before .before .before .before in
     let at = f .before .before .output-of .ensures in
-    let is = found-is _ _ _ _ _ at _ (f .find .ensures .0) in (
+    let is = found-is _ _ _ _ _ at _ (found f) in (
       search needs,
-      found-next _ _ _ _ _ at _ (f .find .ensures .0) (λ a. a .gates) _ _ (l .loop .inv .1) (ap (λ f. f .gates) is),
-      found-next _ _ _ _ _ at _ (f .find .ensures .0) (λ a. a .pins) _ _ (l .loop .inv .2) (ap (λ f. f .pins) is),
+      found-next _ _ _ _ _ at _ (found f) (λ a. a .gates) _ _ (l .loop .inv .1) (ap (λ f. f .gates) is),
+      found-next _ _ _ _ _ at _ (found f) (λ a. a .pins) _ _ (l .loop .inv .2) (ap (λ f. f .pins) is),
       omega (arith, few f .0),
       omega (arith, few f .1),
-      found-byte _ _ _ _ _ at _ (f .find .ensures .0) _ _ (l .loop .inv .5) (omega (arith, begun l .pre .0 .enough)) _ (c .before .before .byte-of .ensures),
-      search needs,
-      cells-next _ _ _ _ _ at _ _ (l .loop .inv .7) _ (f .find .ensures .1),
+      found-byte _ _ _ _ _ at _ (found f) _ _ (l .loop .inv .5) (omega (arith, begun l .pre .enough)) _ (c .before .before .byte-of .ensures),
+      f .find .ensures .1 ∙ l .loop .inv .6,
     )
 
 same-length : tie.Need-same-length Inv-loop μ-loop
-same-length c = c .before .loop .inv .6
+same-length c = ap length (c .before .loop .inv .6)
 
 same-length-2 : tie.Need-same-length-2 Inv-loop μ-loop
 same-length-2 c = kept (c .before)
@@ -112,7 +125,7 @@ same-length-2 c = kept (c .before)
 returns : tie.Need-returns Inv-loop μ-loop
 returns c =
     let e : c .before .loop .output ≡ begun (c .before) .args .shape .outputs = search needs in
-    rw (← e) (c .before .loop .inv .1, (c .before .loop .inv .2, (c .before .loop .inv .5, c .before .loop .inv .7)))
+    rw (← e) (c .before .loop .inv .1, (c .before .loop .inv .2, (c .before .loop .inv .5, c .before .loop .inv .6)))
 
 pub search-outputs-spec : {M : Type 1} → statement M
 search-outputs-spec =

@@ -1,5 +1,5 @@
 -- `forward::forward_in` meets its contract, case by case: constants spread, then the outputs are searched. Assumes nothing.
-use Prim.Native.Nat.{ℕ, _≤_, _<_}
+use Prim.Native.Nat.{ℕ, _≤_}
 use native.Mathlib.Omega.{arith}
 use mathlib.Core.Path.{_≡_, _∙_, sym, ap}
 use mathlib.Core.List.{List}
@@ -38,10 +38,10 @@ module _ (c : tie.After-task) where
   accepted = sym (c .before .before .before .before .decode .ensures .0) ∙ c .task .given .1
 
   given : Accepts netlist list rows task
-  given = accepts netlist list (begun .args .rows .now) (begun .args .known .now) accepted (begun .pre .room) rows (c .before .before .before .before .decode .ensures .1)
+  given = accepts netlist list (begun .args .rows .now) (begun .args .known .now) accepted (begun .pre .0 .room) rows (c .before .before .before .before .decode .ensures .1)
 
   room : signalsOf (task .shape) ≤ length (begun .args .known .now)
-  room = in-room netlist list (begun .args .rows .now) (begun .args .known .now) accepted (begun .pre .room)
+  room = in-room netlist list (begun .args .rows .now) (begun .args .known .now) accepted (begun .pre .0 .room)
 
 -- what is lent as known
 module _ (c : tie.After-spread) where
@@ -49,7 +49,7 @@ module _ (c : tie.After-spread) where
   filling = c .before .before .before .before .before .before .before
 
   abbrev bound : tie.After-task
-  bound = filling .before .before .before .before .before .before .before .before .before .before .before
+  bound = filling .before .before .before .before .before .before .before .before .before .before
 
   abbrev lent : List ℕ
   lent = take (signalsOf (task bound .shape)) (c .spread .last .1 .1 .1 .1 .0)
@@ -86,15 +86,12 @@ returns-2 c = refused-room _ _ _ _ (accepted (c .before .before .before .before 
 gate-table-requires : tie.Need-gate-table-requires
 gate-table-requires c κs = search needs
 
-images-requires : tie.Need-images-requires
-images-requires c κs = search needs
-
-lookup-requires : tie.Need-lookup-requires
-lookup-requires c κs = search needs
+search-requires : tie.Need-search-requires
+search-requires c κs = search needs
 
 fill-inputs-requires : tie.Need-fill-inputs-requires
 fill-inputs-requires c κs =
-    let e = c .before .before .before .before in
+    let e = c .before .before .before in
     let k = e .before .before .before .before .before .before in
     let f = list-formed _ _ _ _ (given k) 0 in
     (f .width-high, omega (arith, f .changes-high, e .before .before .before .if1 .left), omega (arith, room k))
@@ -102,31 +99,29 @@ fill-inputs-requires c κs =
 spread-requires : tie.Need-spread-requires
 spread-requires c κs =
     let i = c .before .before .before .before .before .before in
-    let k = i .before .before .before .before .before .before .before .before .before .before .before in (
-      i .before .before .before .before .gate-table .ensures,
-      filled-passable _ _ _ _ (given k) _ _ _ (i .fill-inputs .ensures) _ (room k) (omega (arith, room k, begun k .pre .celled)),
+    let k = i .before .before .before .before .before .before .before .before .before .before in (
+      i .before .before .before .gate-table .ensures,
+      filled-passable _ _ _ _ (given k) _ _ _ (i .fill-inputs .ensures) _ (room k) (omega (arith, room k, begun k .pre .1)),
     )
 
 add-signals : tie.Need-add-signals
 add-signals c = let f = card-formed _ _ _ _ (given (bound (c .before .before .before .before .before))) 0 in omega (arith, f .inputs-high, f .gates-high)
 
-slice-reshare-prefix-search-outputs : tie.Need-slice-reshare-prefix-search-outputs
-slice-reshare-prefix-search-outputs c =
-    let s = c .before .before .before .before .before .before .before .before in
+slice-relend-prefix-search-outputs : tie.Need-slice-relend-prefix-search-outputs
+slice-relend-prefix-search-outputs c =
+    let s = c .before .before .before .before .before .before .before in
     omega (arith, room (bound s), s .spread .kept .1 .1 .1 .1 .0, filling s .fill-inputs .kept .1 .1 .1 .0)
 
 slice-aggregate-search-outputs : tie.Need-slice-aggregate-search-outputs
-slice-aggregate-search-outputs c = sym (lent-all (c .before .before .before .before .before .before .before .before .before))
+slice-aggregate-search-outputs c = sym (lent-all (c .before .before .before .before .before .before .before .before))
 
 search-outputs-requires : tie.Need-search-outputs-requires
 search-outputs-requires c κs =
-    let s = c .before .before .before .before .before .before .before .before .before .before .before in
+    let s = c .before .before .before .before .before .before .before .before .before in
     let i = filling s in
-    let k = bound s in (
-      changes.searchable (netlist k) (list k) (rows k) (task k) (given k) (begun k .args .change) (begun k .args .known .now) (room k)
-          (i .before .before .before .images .ensures) (i .before .before .lookup .ensures) (lent s) (known s) _ (i .before .before .before .before .before .if2 .left),
-      omega (arith, lent-all s, room k, begun k .pre .celled, s .spread .kept .1 .1 .1 .1 .1 .0),
-    )
+    let k = bound s in
+    changes.searchable (netlist k) (list k) (rows k) (task k) (given k) (begun k .args .change) (begun k .args .known .now) (room k)
+    (i .before .before .search .ensures) (lent s) (known s) _ (i .before .before .before .before .if2 .left)
 
 same-length-3 : tie.Need-same-length-3
 same-length-3 c = search needs
@@ -138,7 +133,7 @@ same-length-4 : tie.Need-same-length-4
 same-length-4 c = search needs
 
 same-length-5 : tie.Need-same-length-5
-same-length-5 c = let k = bound (c .before .before .before .before .before .before .before .before .before .before .before .before .before .before .before .before) in k .before .before .before .before .decode .kept .1 .1 .0
+same-length-5 c = let k = bound (c .before .before .before .before .before .before .before .before .before .before .before .before .before .before) in k .before .before .before .before .decode .kept .1 .1 .0
 
 same-length-6 : tie.Need-same-length-6
 same-length-6 c = search needs
@@ -149,10 +144,10 @@ same-length-7 c = search needs
 returns-4 : tie.Need-returns-4
 returns-4 c =
     let o = c .before .before .before .before in
-    let s = o .before .before .before .before .before .before .before .before .before .before .before .before in
+    let s = o .before .before .before .before .before .before .before .before .before .before in
     let i = filling s in
     let k = bound s in
-    let e = i .before .before .before .before .before in
+    let e = i .before .before .before .before in
     done _ _ _ _ (accepted k) (e .before .before .before .if1 .left) (e .if2 .left) _ _
     (changes.touched-by (netlist k) (list k) (rows k) (task k) (given k) (begun k .args .change) (begun k .args .known .now) (room k) _ (i .fill-inputs .ensures) _
     (s .spread .ensures .0))
@@ -174,12 +169,11 @@ forward-in-spec =
     same-length-2
     returns-2
     gate-table-requires
-    images-requires
-    lookup-requires
+    search-requires
     fill-inputs-requires
     spread-requires
     add-signals
-    slice-reshare-prefix-search-outputs
+    slice-relend-prefix-search-outputs
     slice-aggregate-search-outputs
     search-outputs-requires
     same-length-3

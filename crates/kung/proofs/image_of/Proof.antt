@@ -1,5 +1,5 @@
 -- `kung::image_of` meets its contract: the table has the image at its place. Assumes nothing.
-use mathlib.Core.Path.{_∙_, ap, ap₂}
+use mathlib.Core.Path.{_∙_, ap₂}
 use lib.ListN.{getD}
 use Rattle.kung.proofs.Places.{image-at}
 use borrow.Author.Needs.{needs}

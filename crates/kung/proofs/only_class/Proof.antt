@@ -4,7 +4,7 @@ use Prim.Native.Nat.{ℕ, _-_, _<_}
 use mathlib.Core.Bool.{cond}
 use native.Mathlib.Omega.{arith}
 use lib.Bits.{bitAnd}
-use lib.Count.{trailingZeros, trailing-le, under}
+use lib.Count.{trailingZeros, trailing-le}
 use lib.Dec.{eqb}
 use borrow.Author.Tests.{eq-eqb, ne-eqb}
 use Rattle.kung.specs.Sets.{has}

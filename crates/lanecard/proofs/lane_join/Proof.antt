@@ -3,8 +3,8 @@ use borrow.Author.Needs.{needs}
 use Rattle.lanecard.proofs.lane_join.Statement.{statement}
 use Rattle.lanecard.proofs.lane_join.Tie as tie
 
-images-requires : tie.Need-images-requires
-images-requires c κs = search needs
+search-requires : tie.Need-search-requires
+search-requires c κs = search needs
 
 joined-requires : tie.Need-joined-requires
 joined-requires c κs = search needs
@@ -13,4 +13,4 @@ returns : tie.Need-returns
 returns c = c .joined .ensures
 
 pub lane-join-spec : {M : Type 1} → statement M
-lane-join-spec = tie.close (tie.spec images-requires joined-requires returns)
+lane-join-spec = tie.close (tie.spec search-requires joined-requires returns)

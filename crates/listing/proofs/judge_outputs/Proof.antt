@@ -1,9 +1,15 @@
--- `listing::judge_outputs` meets its contract. The loop's invariant: the numbers of the outputs so far are kept. Assumes nothing.
-use Prim.Native.Nat.{_-_, _≤_, _<_}
+-- `listing::judge_outputs` meets its contract. The loop's invariant: the numbers of the outputs so far are kept, and what is known stays. Assumes nothing.
+use Prim.Native.Nat.{ℕ, _-_, _≤_, _<_}
 use native.Mathlib.Omega.{arith}
-use mathlib.Core.Path.{_≡_, ap, subst}
+use mathlib.Core.Path.{_≡_, sym, _∙_, ap, subst}
+use mathlib.Core.List.{List}
 use lib.ListN.{length, getD}
 use Rattle.changes.specs.Lent.{signalsOf}
+use Rattle.search.specs.Search as spec
+use Rattle.visit.specs.declared.Found.{Found}
+use Rattle.visit.specs.Source.{sourceFrom}
+use Rattle.visit.specs.Found.{foundOf}
+use Rattle.visit.specs.Lent.{SearchReady}
 use Rattle.core.proofs.Outputs.{found-is, found-few}
 use Rattle.listing.specs.Lent.{Lined}
 use Rattle.listing.proofs.Lines.{lined-more}
@@ -12,12 +18,11 @@ use Rattle.listing.proofs.judge_outputs.Statement.{statement}
 use Rattle.listing.proofs.judge_outputs.Tie as tie
 
 abbrev Inv-loop : tie.InvT-loop
-Inv-loop images lookup rows known classes lines₀ signals cells₀ output₀ output-end lines cells output =
-    (output ≤ output-end) × (length lines ≡ length lines₀) × (length cells ≡ 2304) × Lined rows known classes signals lines output
+Inv-loop table rows known₀ classes lines₀ signals output₀ output-end known lines output =
+    (output ≤ output-end) × (length lines ≡ length lines₀) × (known ≡ known₀) × Lined rows known₀ classes signals lines output
 
 abbrev μ-loop : tie.MeasureT-loop
-μ-loop images lookup rows known classes lines₀ signals cells₀ output₀ output-end lines cells output =
-    output-end - output
+μ-loop table rows known₀ classes lines₀ signals output₀ output-end known lines output = output-end - output
 
 -- where the function starts
 abbrev begun : tie.At-loop Inv-loop μ-loop → tie.Start Inv-loop μ-loop
@@ -41,31 +46,39 @@ output-of-requires c κs = search needs
 cast-s : tie.Need-cast-s Inv-loop μ-loop
 cast-s c = search needs
 
-slice-aggregate-find : tie.Need-slice-aggregate-find Inv-loop μ-loop
-slice-aggregate-find c = search needs
-
 find-requires : tie.Need-find-requires Inv-loop μ-loop
 find-requires c κs =
     let o = c .before in
     let l = o .before .before in
-    let p = begun l .pre in
-    (p .0 .ready, (below o, omega (arith, below o, p .0 .ready .few-signals, l .loop .inv .2)))
+    let a = begun l .args in
+    let same = l .loop .inv .2 in
+    (subst (SearchReady (a .table .now) (a .rows .now)) (sym same) (begun l .pre .0 .ready), omega (arith, below o, ap length same))
+
+-- what is found, by what is known at first
+found : (c : tie.After-find Inv-loop μ-loop) → let o = c .before .before in
+    let a = begun (o .before .before) .args in
+    c .find .result ≡ foundOf (spec.search (sourceFrom (a .rows .now) (a .known .now)) 15 (o .output-of .result))
+found c =
+    let o = c .before .before in
+    let l = o .before .before in
+    let by : List ℕ → Found = λ k. foundOf (spec.search (sourceFrom (begun l .args .rows .now) k) 15 (o .output-of .result)) in
+    _∙_ {b = by (l .loop .known)} (c .find .ensures .0) (ap by (l .loop .inv .2))
 
 mul-keep-found : tie.Need-mul-keep-found Inv-loop μ-loop
 mul-keep-found c = search needs
 
 shared-slice-read-keep-found : tie.Need-shared-slice-read-keep-found Inv-loop μ-loop
 shared-slice-read-keep-found c =
-    let o = c .before .before .before .before .before in
+    let o = c .before .before .before .before .before .before in
     omega (arith, below o, begun (o .before .before) .pre .1 .0)
 
 keep-found-requires : tie.Need-keep-found-requires Inv-loop μ-loop
 keep-found-requires c κs =
-    let f = c .before .before .before in
+    let f = c .before .before .before .before in
     let o = f .before .before in
     let l = o .before .before in
     let p = begun l .pre in
-    let few = found-few _ _ _ _ _ (o .output-of .ensures) _ (f .find .ensures .0) (p .0 .ready) (below o) in
+    let few = found-few _ _ _ _ _ (o .output-of .ensures) _ (found f) (p .0 .ready) (below o) in
     (omega (arith, o .before .loop-test .taken, p .0 .outputs-high, p .1 .1, l .loop .inv .1), omega (arith, few .0, below o, p .0 .ready .few-signals), omega (arith, few .1))
 
 add-output : tie.Need-add-output Inv-loop μ-loop
@@ -77,27 +90,30 @@ loop-less c = search needs
 loop-again : tie.Need-loop-again Inv-loop μ-loop
 loop-again c =
     let k = c .before .before in
-    let f = k .before .before .before .before in
+    let f = k .before .before .before .before .before in
     let o = f .before .before in
     let l = o .before .before in
     let p = begun l .pre in
     let at = o .output-of .ensures in (
       search needs,
       search needs,
-      search needs,
+      f .find .ensures .1 ∙ l .loop .inv .2,
       lined-more (l .loop .inv .3) (omega (arith, o .before .loop-test .taken, p .0 .outputs-high, p .1 .1, l .loop .inv .1)) _ (ap (λ s. getD (begun l .args .classes .now) s 0) at) _
-          (found-is _ _ _ _ _ at _ (f .find .ensures .0)) _ (k .keep-found .ensures),
+          (found-is _ _ _ _ _ at _ (found f)) _ (k .keep-found .ensures),
     )
 
 same-length : tie.Need-same-length Inv-loop μ-loop
-same-length c = search needs
+same-length c = ap length (c .before .loop .inv .2)
+
+same-length-2 : tie.Need-same-length-2 Inv-loop μ-loop
+same-length-2 c = search needs
 
 returns : tie.Need-returns Inv-loop μ-loop
 returns c =
     let l = c .before in
     let a = begun l .args in
     let e : l .loop .output ≡ a .shape .outputs = search needs in
-    subst (Lined (a .rows .now) (a .known .now) (a .classes .now) (signalsOf (a .shape)) (l .loop .lines)) e (l .loop .inv .3)
+    (subst (Lined (a .rows .now) (a .known .now) (a .classes .now) (signalsOf (a .shape)) (l .loop .lines)) e (l .loop .inv .3), l .loop .inv .2)
 
 pub judge-outputs-spec : {M : Type 1} → statement M
 judge-outputs-spec =
@@ -109,7 +125,6 @@ judge-outputs-spec =
     loop-holds
     output-of-requires
     cast-s
-    slice-aggregate-find
     find-requires
     mul-keep-found
     shared-slice-read-keep-found
@@ -118,4 +133,5 @@ judge-outputs-spec =
     loop-less
     loop-again
     same-length
+    same-length-2
     returns)

@@ -1,9 +1,10 @@
--- `listing::put_page` meets its contract. The loop's invariant: the page has grown up to the change, which is one that is left. Assumes nothing.
+-- `listing::put_page` meets its contract. The loop's invariant: the page has grown up to the change, which is one that is left, and no gate's class is known.
+-- Assumes nothing.
 use Prim.Native.Nat.{ℕ, _+_, _-_, _≤_, _<_}
 use native.Mathlib.Omega.{arith}
 use mathlib.Core.Path.{_≡_, refl, sym, _∙_, ap, subst}
 use mathlib.Core.List.{List, _++_}
-use lib.ListN.{length, take, drop, replicate, length-replicate}
+use lib.ListN.{length, take, drop}
 use Rattle.netlist.specs.Netlist.{inputsOf, gatesOf}
 use Rattle.netlist.specs.Formed.{Formed}
 use Rattle.changes.specs.declared.Task.{Task}
@@ -21,23 +22,24 @@ use Rattle.listing.specs.Listing.{texts, changeLines, printedChanges}
 use Rattle.listing.specs.Lent.{textIn}
 use Rattle.listing.proofs.Laws.{changes-are}
 use Rattle.listing.proofs.Pages.{page-full, page-none, Grown, grown-none, grown-more, grown-all}
-use Rattle.listing.proofs.Prepared.{lines-same, lines-high}
+use Rattle.listing.proofs.Prepared.{Unknown, unknown-first, unknown-again, lines-same, lines-high}
 use borrow.Author.Needs.{needs}
 use Rattle.listing.proofs.put_page.Statement.{statement}
 use Rattle.listing.proofs.put_page.Tie as tie
 
 abbrev Inv-loop : tie.InvT-loop
-Inv-loop netlist list task rows from buffer₀ images lookup table shape signals classes₀ lines₀ change₀ at₀ buffer classes lines change at =
+Inv-loop netlist list task rows from buffer₀ table gates shape signals classes₀ known₀ lines₀ change₀ at₀ buffer classes known lines change at =
     (change < task .changes) × (length classes ≡ 2304) × (length lines ≡ 256) × Grown netlist list buffer₀ buffer from change at
+    × Unknown (task .shape .inputs) known
 
 abbrev μ-loop : tie.MeasureT-loop
-μ-loop netlist list task rows from buffer₀ images lookup table shape signals classes₀ lines₀ change₀ at₀ buffer classes lines change at =
+μ-loop netlist list task rows from buffer₀ table gates shape signals classes₀ known₀ lines₀ change₀ at₀ buffer classes known lines change at =
     task .changes - change
 
 -- what the page is made from
 module _ (k : tie.At-loop Inv-loop μ-loop) where
   abbrev begun : tie.Start Inv-loop μ-loop
-  begun = k .before .before .before .before .before .before .before .before .before .before
+  begun = k .before .before .before .before .before .before .before .before .before
 
   abbrev netlist : List ℕ
   netlist = begun .args .netlist .now
@@ -94,9 +96,8 @@ module _ (c : tie.After-fill-inputs Inv-loop μ-loop) where
 
   known : lent ≡ inputsKnown (inputsOf (netlist k)) (gatesOf (netlist k)) (inputClassAt (list k) (widthOf (inputsOf (netlist k))) (change k))
   known =
-      entry.known-is (netlist k) (list k) (rows k) (task k) (given k) (change k) (replicate 2304 8) _
-      (sym (ap (λ m. drop (task k .shape .inputs) (replicate m 8)) (length-replicate {A = ℕ} 2304 8)))
-      (omega (arith, few k, length-replicate {A = ℕ} 2304 8)) (c .fill-inputs .ensures)
+      entry.known-is (netlist k) (list k) (rows k) (task k) (given k) (change k) (k .loop .known) _
+      (k .loop .inv .4 .none) (omega (arith, few k, k .loop .inv .4 .all)) (c .fill-inputs .ensures)
 
   all-known : length lent ≡ signals k
   all-known = ap length known ∙ entry.known-all (netlist k) (list k) (rows k) (task k) (given k) (change k)
@@ -104,23 +105,23 @@ module _ (c : tie.After-fill-inputs Inv-loop μ-loop) where
 -- the lines of the change, from the numbers that are kept of its outputs
 module _ (c : tie.After-judge-outputs Inv-loop μ-loop) where
   abbrev filled : tie.After-fill-inputs Inv-loop μ-loop
-  filled = c .before .before .before .before .before .before .before
+  filled = c .before .before .before .before .before .before
 
   abbrev here : tie.At-loop Inv-loop μ-loop
   here = k filled
 
   abbrev numbers : List ℕ
-  numbers = c .judge-outputs .last .1 .1 .1 .1 .1 .1 .0
+  numbers = c .judge-outputs .last .1 .1 .1 .1 .1 .0
 
   same : texts (textIn numbers (change here)) 0 (task here .shape .outputs) ≡ changeLines (netlist here) (list here) (change here)
   same =
       lines-same (netlist here) (list here) (rows here) (task here) (given here) (change here) (here .loop .inv .0) (lent filled)
-      (classes (filled .before .before .before)) _ numbers (known filled) (classified (filled .before .before .before)) (c .judge-outputs .ensures)
+      (classes (filled .before .before .before)) _ numbers (known filled) (classified (filled .before .before .before)) (c .judge-outputs .ensures .0)
 
 -- the page with the lines of one change more
 module _ (c : tie.After-put-lines Inv-loop μ-loop) where
   abbrev judged : tie.After-judge-outputs Inv-loop μ-loop
-  judged = c .before .before .before .before
+  judged = c .before .before .before .before .before
 
   abbrev now : tie.At-loop Inv-loop μ-loop
   now = here judged
@@ -131,25 +132,22 @@ module _ (c : tie.After-put-lines Inv-loop μ-loop) where
       grown-more (netlist now) (list now) g (omega (arith, changes now, now .loop .inv .0)) (omega (arith, filled judged .before .before .before .before .before .before .loop-test .taken, kept (g .there)))
       (subst (Appended _ _ _ _) (same judged) (c .put-lines .ensures))
 
-images-requires : tie.Need-images-requires Inv-loop μ-loop
-images-requires c κs = search needs
-
-lookup-requires : tie.Need-lookup-requires Inv-loop μ-loop
-lookup-requires c κs = search needs
+search-requires : tie.Need-search-requires Inv-loop μ-loop
+search-requires c κs = search needs
 
 gate-table-requires : tie.Need-gate-table-requires Inv-loop μ-loop
 gate-table-requires c κs = search needs
 
 add-signals : tie.Need-add-signals Inv-loop μ-loop
 add-signals c =
-    let s = c .before .before .before .before .before .before .before .before .before in
+    let s = c .before .before .before .before .before .before .before .before in
     let f = entry.card-formed _ _ _ _ (s .pre .0) 0 in
     omega (arith, f .inputs-high, f .gates-high)
 
 loop-holds : tie.Need-loop-holds Inv-loop μ-loop
 loop-holds c =
-    let s = c .before .before .before .before .before .before .before .before .before in
-    (s .pre .1, search needs, search needs, grown-none (s .args .netlist .now) (s .args .list .now) (s .args .buffer .now) (s .args .from))
+    let s = c .before .before .before .before .before .before .before .before in
+    (s .pre .1, search needs, search needs, grown-none (s .args .netlist .now) (s .args .list .now) (s .args .buffer .now) (s .args .from), unknown-first (s .args .task .shape .inputs))
 
 sub-loop : tie.Need-sub-loop Inv-loop μ-loop
 sub-loop c = let g = c .loop .inv .3 .there in omega (arith, g .after, g .room, kept g)
@@ -175,28 +173,27 @@ slice-aggregate-fill-inputs c = search needs
 fill-inputs-requires : tie.Need-fill-inputs-requires Inv-loop μ-loop
 fill-inputs-requires c κs =
     let k = c .before .before .before .before .before .before in
-    (of-list k .width-high, omega (arith, of-list k .changes-high, k .loop .inv .0), omega (arith, few k, length-replicate {A = ℕ} 2304 8))
+    (of-list k .width-high, omega (arith, of-list k .changes-high, k .loop .inv .0), omega (arith, few k, k .loop .inv .4 .all))
 
-array-share-prefix-known : tie.Need-array-share-prefix-known Inv-loop μ-loop
-array-share-prefix-known c =
-    let f = c .before in
-    omega (arith, few (k f), f .fill-inputs .kept .1 .1 .1 .0, length-replicate {A = ℕ} 2304 8)
-
-slice-aggregate-lent : tie.Need-slice-aggregate-lent Inv-loop μ-loop
-slice-aggregate-lent c = sym (all-known (c .before .before))
+array-borrow-prefix-known : tie.Need-array-borrow-prefix-known Inv-loop μ-loop
+array-borrow-prefix-known c =
+    let f = c .before .before in
+    omega (arith, few (k f), f .fill-inputs .kept .1 .1 .1 .0, k f .loop .inv .4 .all)
 
 slice-aggregate-judge-outputs : tie.Need-slice-aggregate-judge-outputs Inv-loop μ-loop
-slice-aggregate-judge-outputs c = search needs
+slice-aggregate-judge-outputs c = sym (all-known (c .before .before .before))
 
 slice-aggregate-judge-outputs-2 : tie.Need-slice-aggregate-judge-outputs-2 Inv-loop μ-loop
 slice-aggregate-judge-outputs-2 c = search needs
 
+slice-aggregate-judge-outputs-3 : tie.Need-slice-aggregate-judge-outputs-3 Inv-loop μ-loop
+slice-aggregate-judge-outputs-3 c = search needs
+
 judge-outputs-requires : tie.Need-judge-outputs-requires Inv-loop μ-loop
 judge-outputs-requires c κs =
-    let f = c .before .before .before .before .before .before in
+    let f = c .before .before .before .before .before in
     let k = k f in
-    let t = k .before .before .before in
-    let r = entry.ready (netlist k) (list k) (rows k) (task k) (given k) (change k) (t .before .before .images .ensures) (t .before .lookup .ensures) (lent f) (known f) in (
+    let r = entry.ready (netlist k) (list k) (rows k) (task k) (given k) (change k) (k .before .before .before .before .search .ensures) (lent f) (known f) in (
       entry.outputs-ready (netlist k) (list k) (rows k) (task k) (given k) (change k) (lent f) r (all-known f) 64 (card k .outputs-high),
       (omega (arith, all-known f, few k, k .loop .inv .1, f .before .before .before .classify .kept .1 .1 .1 .1 .1 .0), omega (arith, k .loop .inv .2)),
     )
@@ -206,10 +203,10 @@ slice-aggregate-put-lines c = search needs
 
 put-lines-requires : tie.Need-put-lines-requires Inv-loop μ-loop
 put-lines-requires c κs =
-    let j = c .before .before .before in
+    let j = c .before .before .before .before in
     let k = here j in
     let g = k .loop .inv .3 .there in (
-      (card k .outputs-high, omega (arith, k .loop .inv .2, j .judge-outputs .kept .1 .1 .1 .1 .1 .1 .0)),
+      (card k .outputs-high, omega (arith, k .loop .inv .2, j .judge-outputs .kept .1 .1 .1 .1 .1 .0)),
       rw (same j)
           (omega (
             arith,
@@ -238,8 +235,10 @@ loop-again c =
     let j = judged p in (
       omega (arith, k .loop .inv .0, c .if1 .left),
       omega (arith, k .loop .inv .1, filled j .before .before .before .classify .kept .1 .1 .1 .1 .1 .0),
-      omega (arith, k .loop .inv .2, j .judge-outputs .kept .1 .1 .1 .1 .1 .1 .0),
+      omega (arith, k .loop .inv .2, j .judge-outputs .kept .1 .1 .1 .1 .1 .0),
       more p,
+      unknown-again (list k) (task k .width) (change k) (task k .shape .inputs) (signals k) (k .loop .known) _ _ (k .loop .inv .4)
+          (filled j .fill-inputs .ensures) (filled j .fill-inputs .kept .1 .1 .1 .0) (j .judge-outputs .ensures .1),
     )
 
 same-length : tie.Need-same-length Inv-loop μ-loop
@@ -266,8 +265,7 @@ put-page-spec =
     (tie.spec
     Inv-loop
     μ-loop
-    images-requires
-    lookup-requires
+    search-requires
     gate-table-requires
     add-signals
     loop-holds
@@ -276,10 +274,10 @@ put-page-spec =
     classify-requires
     slice-aggregate-fill-inputs
     fill-inputs-requires
-    array-share-prefix-known
-    slice-aggregate-lent
+    array-borrow-prefix-known
     slice-aggregate-judge-outputs
     slice-aggregate-judge-outputs-2
+    slice-aggregate-judge-outputs-3
     judge-outputs-requires
     slice-aggregate-put-lines
     put-lines-requires

@@ -1,12 +1,13 @@
 -- `check_records`: at each record, and in it at each pin, what is left of the check is the whole of what follows the counts, and so of the
 -- rows. Assumes nothing.
-use Prim.Native.Nat.{ℕ, _+_, _-_, _*_, _<_}
+use Prim.Native.Nat.{ℕ, _+_, _-_, _*_, _≤_, _<_}
 use native.Mathlib.Omega.{arith}
+use native.Mathlib.Nat.{sub-zero, add-zero}
 use mathlib.Core.Path.{_≡_, refl, _∙_, sym, ap, ap₂}
-use mathlib.Core.Bool.{cond}
 use mathlib.Core.List.{List}
 use lib.Arith.{lt-of-le-ne}
 use lib.Dec.{ltb}
+use lib.ListN.{length}
 use Rattle.kung.specs.Rule.{each}
 use Rattle.kung.specs.Tables.{tab}
 use Rattle.rows.specs.Making.{ones, putAt}
@@ -17,7 +18,7 @@ use Rattle.netlist.specs.Netlist.{inputsOf, gatesOf, recordAt, wordsBelo
 use Rattle.netlist.specs.Reading.{headAt}
 use Rattle.netlist.specs.Decoded.{rowsFrom, withOutputs}
 use Rattle.netlist.proofs.Refusals.{words-stop, words-more, words-end}
-use Rattle.netlist.proofs.Heads.{HeadTold, head-told, record-refused, record-pins}
+use Rattle.netlist.proofs.Heads.{HeadTold, head-told, fit-head, record-refused, record-pins}
 use Rattle.netlist.proofs.Passing.{fits-not}
 use Rattle.netlist.proofs.Keeping.{kept-refused}
 use Rattle.netlist.proofs.Together.{all-passed}
@@ -27,11 +28,11 @@ use Rattle.netlist.proofs.check_records.Statement.{statement}
 use Rattle.netlist.proofs.check_records.Tie as tie
 
 abbrev Inv-pins : tie.InvT-pins
-Inv-pins s rows inputs gates window meanings gate at pins count word signal row k₀ k =
+Inv-pins s rows inputs gates window meanings gate at pins signal count word k₀ k =
     (next : Checked) → recordAt s signal at next ≡ wordsBelow (count - k) s (at + 2 + 2 * k) signal 8 next
 
 abbrev μ-pins : tie.MeasureT-pins
-μ-pins s rows inputs gates window meanings gate at pins count word signal row k₀ k = count - k
+μ-pins s rows inputs gates window meanings gate at pins signal count word k₀ k = count - k
 
 abbrev Inv-records : tie.InvT-records
 Inv-records s rows₀ inputs gates window meanings gate₀ at₀ pins₀ rows gate at pins = Reached s rows₀ gates gate at pins rows
@@ -78,24 +79,6 @@ refused c number place r =
       sym (kept-refused (bytes a) _ _ e ∙ reached-unfit _ _ _ _ _ _ _ (a .records .inv) (more c) (inputs a) (inputs-are a) (fits-not _ _ _ r)),
     )
 
--- the record's head
-abbrev at-record : tie.After-known-told2 Inv-pins μ-pins Inv-records μ-records → tie.Else1 Inv-pins μ-pins Inv-records μ-records
-at-record c = c .before .before .before .before .before
-
-abbrev counted : tie.After-known-told2 Inv-pins μ-pins Inv-records μ-records → ℕ
-counted c = c .before .count .given .0 .0
-
-abbrev word : tie.After-known-told2 Inv-pins μ-pins Inv-records μ-records → ℕ
-word c = c .before .count .given .0 .1 .0
-
-head : (c : tie.After-known-told2 Inv-pins μ-pins Inv-records μ-records) → let a = at-record c .before in
-    headAt (bytes a) (a .records .at) ≡ Pins (counted c) (word c)
-head c = sym (c .before .before .before .head-at .ensures) ∙ c .before .count .given .1
-
-told : (c : tie.After-known-told2 Inv-pins μ-pins Inv-records μ-records) → let a = at-record c .before in
-    HeadTold (bytes a) (a .records .at) (counted c) (word c)
-told c = head-told _ _ (head c)
-
 word-at-requires : tie.Need-word-at-requires Inv-pins μ-pins Inv-records μ-records
 word-at-requires c κs = search needs
 
@@ -120,79 +103,73 @@ check-outputs-requires c κs =
     let l = reached-last _ _ _ _ _ _ _ (a .records .inv) (c .before .if1 .taken) (gates-are a) in
     (l .0, l .1, a .records .inv .place-high)
 
-head-at-requires : tie.Need-head-at-requires Inv-pins μ-pins Inv-records μ-records
-head-at-requires c κs = (c .before .before .before .meaning-table .ensures, c .before .before .records .inv .place-high)
+add-signal : tie.Need-add-signal Inv-pins μ-pins Inv-records μ-records
+add-signal c = search needs
 
-enum-known-number : tie.Need-enum-known-number Inv-pins μ-pins Inv-records μ-records
-enum-known-number c = search needs
+fit-at-requires : tie.Need-fit-at-requires Inv-pins μ-pins Inv-records μ-records
+fit-at-requires c κs = (c .before .before .before .meaning-table .ensures, c .before .before .records .inv .place-high)
+
+enum-told : tie.Need-enum-told Inv-pins μ-pins Inv-records μ-records
+enum-told c = search needs
 
 enum-known-count : tie.Need-enum-known-count Inv-pins μ-pins Inv-records μ-records
 enum-known-count c = search needs
 
-add-signal : tie.Need-add-signal Inv-pins μ-pins Inv-records μ-records
-add-signal c = search needs
+-- a record that is looked at together
+abbrev at-fit : tie.After-known-told Inv-pins μ-pins Inv-records μ-records → tie.Else1 Inv-pins μ-pins Inv-records μ-records
+at-fit c = c .before .before .before .before .before
 
-add-row-at : tie.Need-add-row-at Inv-pins μ-pins Inv-records μ-records
-add-row-at c = omega (arith, told (c .before))
+abbrev counted₁ : tie.After-known-told Inv-pins μ-pins Inv-records μ-records → ℕ
+counted₁ c = c .before .count .given .0 .0
 
-row-at-requires : tie.Need-row-at-requires Inv-pins μ-pins Inv-records μ-records
+abbrev word₁ : tie.After-known-told Inv-pins μ-pins Inv-records μ-records → ℕ
+word₁ c = c .before .count .given .0 .1 .0
+
+fit : (c : tie.After-known-told Inv-pins μ-pins Inv-records μ-records) → let a = at-fit c .before in
+    (a .records .at + 18 ≤ length (bytes a)) × (headAt (bytes a) (a .records .at) ≡ Pins (counted₁ c) (word₁ c))
+fit c = fit-head _ _ (sym (c .before .before .before .fit-at .ensures) ∙ c .before .count .given .1)
+
+told₁ : (c : tie.After-known-told Inv-pins μ-pins Inv-records μ-records) → let a = at-fit c .before in HeadTold (bytes a) (a .records .at) (counted₁ c) (word₁ c)
+told₁ c = head-told _ _ (fit c .1)
+
+add-own-in : tie.Need-add-own-in Inv-pins μ-pins Inv-records μ-records
+add-own-in c = omega (arith, told₁ (c .before))
+
+own-in-requires : tie.Need-own-in-requires Inv-pins μ-pins Inv-records μ-records
 unfolding ones tab
-row-at-requires c κs = let t = told (c .before) in (refl, t .count-some, t .count-eight, t .room)
+own-in-requires c κs = let room = fit (c .before) .0 in (refl, told₁ (c .before) .count-eight, omega arith)
 
-cast-passed : tie.Need-cast-passed Inv-pins μ-pins Inv-records μ-records
-cast-passed c = search needs
+cast-are-below : tie.Need-cast-are-below Inv-pins μ-pins Inv-records μ-records
+cast-are-below c = search needs
 
-passed-requires : tie.Need-passed-requires Inv-pins μ-pins Inv-records μ-records
-passed-requires c κs = search needs
+are-below-requires : tie.Need-are-below-requires Inv-pins μ-pins Inv-records μ-records
+are-below-requires c κs = search needs
 
-pins-holds : tie.Need-pins-holds Inv-pins μ-pins Inv-records μ-records
-pins-holds c next =
-    let t = c .before .before .before in
-    let k = c .passed .ensures ∙ ap (λ (row : List ℕ). cond (each (λ x. ltb x (signal (at-record t .before))) row) (counted t) 0) (c .before .row-at .ensures) in
-    record-pins _ _ _ _ (head t) ∙ all-passed _ _ _ _ (told t .count-eight) k 8 next
+add-row-in : tie.Need-add-row-in Inv-pins μ-pins Inv-records μ-records
+add-row-in c = omega (arith, told₁ (c .before .before .before .before .before))
 
-add-place : tie.Need-add-place Inv-pins μ-pins Inv-records μ-records
-add-place c = search needs
-
-mul-place : tie.Need-mul-place Inv-pins μ-pins Inv-records μ-records
-mul-place c = omega (arith, told (c .before .before .before .before .before))
-
-add-place-2 : tie.Need-add-place-2 Inv-pins μ-pins Inv-records μ-records
-add-place-2 c = omega (arith, told (c .before .before .before .before .before))
-
-cast-if2 : tie.Need-cast-if2 Inv-pins μ-pins Inv-records μ-records
-cast-if2 c = search needs
-
-word-in-requires : tie.Need-word-in-requires Inv-pins μ-pins Inv-records μ-records
-word-in-requires c κs = omega (arith, told (c .before .before .before .before .before))
-
-add-k : tie.Need-add-k Inv-pins μ-pins Inv-records μ-records
-add-k c = search needs
-
-pins-less : tie.Need-pins-less Inv-pins μ-pins Inv-records μ-records
-pins-less c = search needs
-
-pins-again : tie.Need-pins-again Inv-pins μ-pins Inv-records μ-records
-pins-again c next = c .before .before .before .pins .inv next ∙ words-more _ _ _ _ _ _ _ (c .before .before .pins-test .left) (c .before .word-in .ensures) (c .if2 .left)
+row-in-requires : tie.Need-row-in-requires Inv-pins μ-pins Inv-records μ-records
+unfolding ones tab
+row-in-requires c κs = let t = c .before .before .before .before .before in let room = fit t .0 in (refl, told₁ t .count-some, told₁ t .count-eight, omega arith)
 
 keep-row-requires : tie.Need-keep-row-requires Inv-pins μ-pins Inv-records μ-records
 keep-row-requires c κs = search needs
 
--- back from where the row is kept
-abbrev kept-told : tie.After-slice-known3 Inv-pins μ-pins Inv-records μ-records → tie.After-known-told2 Inv-pins μ-pins Inv-records μ-records
-kept-told c = c .before .before .before .before .before .before .before .before .before
+-- back from where its row is kept
+abbrev kept-fit : tie.After-slice-known3 Inv-pins μ-pins Inv-records μ-records → tie.After-known-told Inv-pins μ-pins Inv-records μ-records
+kept-fit c = c .before .before .before .before .before .before .before .before .before .before
 
 add-pins : tie.Need-add-pins Inv-pins μ-pins Inv-records μ-records
-add-pins c = omega (arith, told (kept-told c), at-record (kept-told c) .before .records .inv .pins-high)
+add-pins c = omega (arith, told₁ (kept-fit c), at-fit (kept-fit c) .before .records .inv .pins-high)
 
 add-at : tie.Need-add-at Inv-pins μ-pins Inv-records μ-records
 add-at c = search needs
 
 mul-at : tie.Need-mul-at Inv-pins μ-pins Inv-records μ-records
-mul-at c = omega (arith, told (kept-told c))
+mul-at c = omega (arith, told₁ (kept-fit c))
 
 add-at-2 : tie.Need-add-at-2 Inv-pins μ-pins Inv-records μ-records
-add-at-2 c = omega (arith, told (kept-told c))
+add-at-2 c = omega (arith, told₁ (kept-fit c))
 
 add-gate : tie.Need-add-gate Inv-pins μ-pins Inv-records μ-records
 add-gate c = search needs
@@ -202,15 +179,112 @@ records-less c = search needs
 
 records-again : tie.Need-records-again Inv-pins μ-pins Inv-records μ-records
 records-again c =
-    let l = c .before .before .before .before in
+    let t = kept-fit c in
+    let e = at-fit t in
+    let a = e .before in
+    let row = c .before .before .before .before in
+    let below = row .before .before .before in
+    let nine = row-read (bytes a) (a .records .at) (told₁ t .count-is) (told₁ t .word-is) (row .row-in .ensures) in
+    let passes = sym (below .are-below .ensures ∙ ap (each (λ x. ltb x (signal a))) (below .before .own-in .ensures)) ∙ row .before .before .if2 .taken in
+    reached-next _ _ _ _ _ _ _ (a .records .inv) (more e) (inputs a) (inputs-are a) (counted₁ t) (told₁ t .count-is) (told₁ t .room)
+    (λ next. record-pins _ _ _ _ (fit t .1) ∙ all-passed _ _ _ _ (told₁ t .count-eight) passes 8 next)
+    _
+    (c .before .before .keep-row .ensures ∙ ap (putAt (a .records .rows) (9 * signal a)) nine)
+
+head-at-requires : tie.Need-head-at-requires Inv-pins μ-pins Inv-records μ-records
+head-at-requires c κs = (c .before .before .before .before .before .before .meaning-table .ensures, c .before .before .before .before .before .records .inv .place-high)
+
+enum-known-number : tie.Need-enum-known-number Inv-pins μ-pins Inv-records μ-records
+enum-known-number c = search needs
+
+enum-known-count-2 : tie.Need-enum-known-count-2 Inv-pins μ-pins Inv-records μ-records
+enum-known-count-2 c = search needs
+
+-- a record whose pins are looked at one after the other
+abbrev at-record : tie.After-known-told3 Inv-pins μ-pins Inv-records μ-records → tie.Else1 Inv-pins μ-pins Inv-records μ-records
+at-record c = c .before .before .before .before .before .before .before .before
+
+abbrev counted : tie.After-known-told3 Inv-pins μ-pins Inv-records μ-records → ℕ
+counted c = c .before .count2 .given .0 .0
+
+abbrev word : tie.After-known-told3 Inv-pins μ-pins Inv-records μ-records → ℕ
+word c = c .before .count2 .given .0 .1 .0
+
+head : (c : tie.After-known-told3 Inv-pins μ-pins Inv-records μ-records) → let a = at-record c .before in headAt (bytes a) (a .records .at) ≡ Pins (counted c) (word c)
+head c = sym (c .before .before .before .head-at .ensures) ∙ c .before .count2 .given .1
+
+told : (c : tie.After-known-told3 Inv-pins μ-pins Inv-records μ-records) → let a = at-record c .before in HeadTold (bytes a) (a .records .at) (counted c) (word c)
+told c = head-told _ _ (head c)
+
+pins-holds : tie.Need-pins-holds Inv-pins μ-pins Inv-records μ-records
+pins-holds c = λ next. record-pins _ _ _ _ (head c) ∙ rw (sub-zero, add-zero)
+
+add-place : tie.Need-add-place Inv-pins μ-pins Inv-records μ-records
+add-place c = search needs
+
+mul-place : tie.Need-mul-place Inv-pins μ-pins Inv-records μ-records
+mul-place c = omega (arith, told (c .before .before))
+
+add-place-2 : tie.Need-add-place-2 Inv-pins μ-pins Inv-records μ-records
+add-place-2 c = omega (arith, told (c .before .before))
+
+cast-if3 : tie.Need-cast-if3 Inv-pins μ-pins Inv-records μ-records
+cast-if3 c = search needs
+
+word-in-requires : tie.Need-word-in-requires Inv-pins μ-pins Inv-records μ-records
+word-in-requires c κs = omega (arith, told (c .before .before))
+
+add-k : tie.Need-add-k Inv-pins μ-pins Inv-records μ-records
+add-k c = search needs
+
+pins-less : tie.Need-pins-less Inv-pins μ-pins Inv-records μ-records
+pins-less c = search needs
+
+pins-again : tie.Need-pins-again Inv-pins μ-pins Inv-records μ-records
+pins-again c = λ next. c .before .before .before .pins .inv next ∙ words-more _ _ _ _ _ _ _ (c .before .before .pins-test .left) (c .before .word-in .ensures) (c .if3 .left)
+
+add-row-short : tie.Need-add-row-short Inv-pins μ-pins Inv-records μ-records
+add-row-short c = omega (arith, told (c .before .before))
+
+row-short-requires : tie.Need-row-short-requires Inv-pins μ-pins Inv-records μ-records
+row-short-requires c κs = let t = told (c .before .before) in (t .count-some, t .count-eight, t .room)
+
+keep-row-requires-2 : tie.Need-keep-row-requires-2 Inv-pins μ-pins Inv-records μ-records
+keep-row-requires-2 c κs = search needs
+
+-- back from where its row is kept
+abbrev kept-told : tie.After-slice-known4 Inv-pins μ-pins Inv-records μ-records → tie.After-known-told3 Inv-pins μ-pins Inv-records μ-records
+kept-told c = c .before .before .before .before .before .before .before
+
+add-pins-2 : tie.Need-add-pins-2 Inv-pins μ-pins Inv-records μ-records
+add-pins-2 c = omega (arith, told (kept-told c), at-record (kept-told c) .before .records .inv .pins-high)
+
+add-at-3 : tie.Need-add-at-3 Inv-pins μ-pins Inv-records μ-records
+add-at-3 c = search needs
+
+mul-at-2 : tie.Need-mul-at-2 Inv-pins μ-pins Inv-records μ-records
+mul-at-2 c = omega (arith, told (kept-told c), at-record (kept-told c) .before .records .inv .place-high)
+
+add-at-4 : tie.Need-add-at-4 Inv-pins μ-pins Inv-records μ-records
+add-at-4 c = omega (arith, told (kept-told c), at-record (kept-told c) .before .records .inv .place-high)
+
+add-gate-2 : tie.Need-add-gate-2 Inv-pins μ-pins Inv-records μ-records
+add-gate-2 c = search needs
+
+records-less-2 : tie.Need-records-less-2 Inv-pins μ-pins Inv-records μ-records
+records-less-2 c = search needs
+
+records-again-2 : tie.Need-records-again-2 Inv-pins μ-pins Inv-records μ-records
+records-again-2 c =
+    let l = c .before .before .before .before .before in
     let t = kept-told c in
     let e = at-record t in
     let a = e .before in
-    let row = row-read (bytes a) (a .records .at) (told t .count-is) (told t .word-is) (l .before .before .before .row-at .ensures) in
+    let row = row-read (bytes a) (a .records .at) (told t .count-is) (told t .word-is) (c .before .before .before .before .row-short .ensures) in
     reached-next _ _ _ _ _ _ _ (a .records .inv) (more e) (inputs a) (inputs-are a) (counted t) (told t .count-is) (told t .room)
     (λ next. l .before .pins .inv next ∙ words-end _ _ _ _ _ _ _ (l .pins-test .taken))
     _
-    (c .before .before .keep-row .ensures ∙ ap (putAt (a .records .rows) (9 * signal a)) row)
+    (c .before .before .keep-row2 .ensures ∙ ap (putAt (a .records .rows) (9 * signal a)) row)
 
 same-length : tie.Need-same-length Inv-pins μ-pins Inv-records μ-records
 same-length c = let a = c .before .before .before .before .before in c .before .before .check-outputs .kept .1 .0 ∙ a .records .inv .same-length
@@ -225,21 +299,21 @@ returns c =
     )
 
 same-length-2 : tie.Need-same-length-2 Inv-pins μ-pins Inv-records μ-records
-same-length-2 c = c .before .before .before .before .before .before .records .inv .same-length
+same-length-2 c = c .before .before .before .before .before .before .before .before .before .records .inv .same-length
 
 returns-2 : tie.Need-returns-2 Inv-pins μ-pins Inv-records μ-records
 returns-2 c =
     let h = c .before .before .before in
-    refused (h .before .before) _ _ (λ next. record-refused _ _ _ next (sym (h .head-at .ensures) ∙ c .before .number .given .1))
+    refused (h .before .before .before .before .before) _ _ (λ next. record-refused _ _ _ next (sym (h .head-at .ensures) ∙ c .before .number .given .1))
 
 same-length-3 : tie.Need-same-length-3 Inv-pins μ-pins Inv-records μ-records
-same-length-3 c = at-record (c .before .before .before .before .before .before .before) .before .records .inv .same-length
+same-length-3 c = c .before .before .before .before .before .before .before .before .before .before .before .before .before .records .inv .same-length
 
 returns-3 : tie.Need-returns-3 Inv-pins μ-pins Inv-records μ-records
 returns-3 c =
     let p = c .before .before .before in
-    refused (at-record (p .before .before .before .before)) _ _
-    (λ next. p .pins .inv next ∙ words-stop _ _ _ _ _ _ _ (c .before .before .pins-test .left) (c .before .word-in .ensures) (c .if2 .taken))
+    refused (at-record (p .before)) _ _
+    (λ next. p .pins .inv next ∙ words-stop _ _ _ _ _ _ _ (c .before .before .pins-test .left) (c .before .word-in .ensures) (c .if3 .taken))
 
 pub check-records-spec : {M : Type 1} → statement M
 check-records-spec =
@@ -256,23 +330,16 @@ check-records-spec =
     meaning-table-requires
     records-holds
     check-outputs-requires
-    head-at-requires
-    enum-known-number
-    enum-known-count
     add-signal
-    add-row-at
-    row-at-requires
-    cast-passed
-    passed-requires
-    pins-holds
-    add-place
-    mul-place
-    add-place-2
-    cast-if2
-    word-in-requires
-    add-k
-    pins-less
-    pins-again
+    fit-at-requires
+    enum-told
+    enum-known-count
+    add-own-in
+    own-in-requires
+    cast-are-below
+    are-below-requires
+    add-row-in
+    row-in-requires
     keep-row-requires
     add-pins
     add-at
@@ -281,6 +348,28 @@ check-records-spec =
     add-gate
     records-less
     records-again
+    head-at-requires
+    enum-known-number
+    enum-known-count-2
+    pins-holds
+    add-place
+    mul-place
+    add-place-2
+    cast-if3
+    word-in-requires
+    add-k
+    pins-less
+    pins-again
+    add-row-short
+    row-short-requires
+    keep-row-requires-2
+    add-pins-2
+    add-at-3
+    mul-at-2
+    add-at-4
+    add-gate-2
+    records-less-2
+    records-again-2
     same-length
     returns
     same-length-2

@@ -1,11 +1,11 @@
 -- `keep_row`: the pins, and the word after them. Assumes nothing.
 use Prim.Native.Nat.{_+_, _*_}
 use native.Mathlib.Omega.{arith}
-use mathlib.Core.Path.{_≡_, sym, _∙_, ap}
+use mathlib.Core.Path.{_≡_, sym}
 use mathlib.Core.List.{[], _∷_}
-use lib.ListN.{length, set, length-append}
+use lib.ListN.{length, length-append}
 use borrow.Author.Needs.{needs}
-use Rattle.rows.proofs.Making.{put-out, put-more, length-put}
+use Rattle.rows.proofs.Making.{put-out, put-more}
 use Rattle.rows.proofs.keep_row.Statement.{statement}
 use Rattle.rows.proofs.keep_row.Tie as tie
 

@@ -1,15 +1,18 @@
 -- `sweep::pass` meets its contract: after each turn both buffers have what is due to the signals so far, then their own bytes. Assumes nothing.
 use Prim.Native.Nat.{_+_, _-_, _≤_}
 use native.Mathlib.Omega.{arith}
-use mathlib.Core.Path.{_≡_, _∙_, ap, ap₂}
+use mathlib.Core.Path.{_≡_, sym, _∙_, ap, ap₂}
 use mathlib.Core.List.{_++_}
 use native.Mathlib.Nat.{add-comm}
 use mathlib.Core.Bool.{_||_}
+use lib.Count.{trailingZeros, trailing-le}
 use lib.ListN.{length, drop, set}
-use Rattle.kung.specs.Class.{c0, c1, code}
+use Rattle.kung.specs.Class.{c0, c1, ofCode}
 use Rattle.kung.specs.Sets.{bit, has}
-use Rattle.kung.specs.Members.{members}
+use Rattle.kung.specs.Members.{members, insert}
 use Rattle.kung.specs.Gates.{gateAt}
+use Rattle.kung.proofs.Finite.{ofCode-code}
+use Rattle.kung.proofs.SetLaws.{lowest-one}
 use Rattle.kung.proofs.Unions.{bit-lt}
 use Rattle.rows.specs.Rows.{gateIn}
 use Rattle.sweep.specs.Sweep.{codesOf, hotsOf, touchedBy}
@@ -81,23 +84,23 @@ word-of-requires c κs =
     let i = c .before .before in
     i .before .before .before .before .before .before .before .before .before .before .pre .1 .gate (i .before .loop .gate) (i .loop-test .taken) .inside
 
-cast-gate-class : tie.Need-cast-gate-class Inv-loop μ-loop
-cast-gate-class c = search needs
+cast-gate-set : tie.Need-cast-gate-set Inv-loop μ-loop
+cast-gate-set c = search needs
 
-gate-class-requires : tie.Need-gate-class-requires Inv-loop μ-loop
-gate-class-requires c κs = search needs
-
-with-class-requires : tie.Need-with-class-requires Inv-loop μ-loop
-with-class-requires c κs = search needs
+gate-set-requires : tie.Need-gate-set-requires Inv-loop μ-loop
+gate-set-requires c κs = search needs
 
 slice-write-hot : tie.Need-slice-write-hot Inv-loop μ-loop
 slice-write-hot c =
-    let l = c .before .before .before .before .before .before in
+    let l = c .before .before .before .before .before in
     omega (arith, kept-hot l, l .before .before .before .before .before .before .before .before .before .pre .1 .hot-room)
+
+cast-buffer : tie.Need-cast-buffer Inv-loop μ-loop
+cast-buffer c = omega (arith, trailing-le 8 (c .gate-set .result))
 
 slice-write-buffer : tie.Need-slice-write-buffer Inv-loop μ-loop
 slice-write-buffer c =
-    let l = c .before .before .before .before .before .before in
+    let l = c .before .before .before .before .before in
     omega (arith, kept-buffer l, l .before .before .before .before .before .before .before .before .before .pre .1 .room)
 
 is-touched-requires : tie.Need-is-touched-requires Inv-loop μ-loop
@@ -105,8 +108,8 @@ is-touched-requires c κs = search needs
 
 add-touched : tie.Need-add-touched Inv-loop μ-loop
 add-touched c =
-    let union = c .before .before .before .before .pin-set .result in
-    let s = c .before .before .before .before .before .before .before .before .before .before .before .before .before .before .before .before in
+    let union = c .before .before .before .pin-set .result in
+    let s = c .before .before .before .before .before .before .before .before .before .before .before .before .before .before .before in
     omega (arith, c .is-touched .ensures, bit-lt (has union c0 || has union c1), s .pre .1 .gates-high)
 
 add-gate : tie.Need-add-gate Inv-loop μ-loop
@@ -117,25 +120,25 @@ loop-less c = search needs
 
 loop-again : tie.Need-loop-again Inv-loop μ-loop
 loop-again c =
-    let s = c .before .before .before .before .before .before .before .before .before .before .before .before .before .before .before .before in
+    let l = c .before .before .before .before .before .before in
+    let s = l .before .before .before .before .before .before .before .before .before in
     let a = s .args in
-    let l = c .before .before .before .before .before .before .before .loop in
-    let h = c .before .before .before .before .before .before .loop-test .taken in
-    let old = c .before .before .before .before .before .before .before .before .before .before .heat .last .0 in
-    let union = c .before .before .before .before .pin-set .result in
-    let made =
-    c .before .before .gate-class .ensures
-    ∙ ap₂ (λ w m. code (gateAt (gateIn w) (members m))) (c .before .before .before .word-of .ensures) (c .before .before .before .before .pin-set .ensures) in (
+    let h = c .before .before .before .before .before .loop-test .taken in
+    let old = l .before .before .before .heat .last .0 in
+    let pins = c .before .before .before .pin-set in
+    let only = c .before .gate-set .ensures ∙ ap₂ (λ w m. insert 0 (gateAt (gateIn w) (members m))) (c .before .before .word-of .ensures) (pins .ensures) in
+    let made = ap (trailingZeros 8) only ∙ lowest-one _ in
+    let alone = only ∙ ap (insert 0) (sym (ap ofCode made ∙ ofCode-code _)) in (
       search needs,
-      pass-more (a .rows .now) (a .buffer .now) (a .inputs) (a .gates) (length (a .hot .now)) (s .pre .1) old (l .hot) (l .gate) h (l .inv .2) _ made
-          (l .buffer) (l .inv .1),
-      ap (λ b. set (l .hot) (a .inputs + l .gate) b) (c .before .with-class .ensures)
-          ∙ hot-more (a .rows .now) (a .buffer .now) (a .inputs) (a .gates) (length (a .hot .now)) (s .pre .1) old (l .hot) (l .gate) h (l .inv .2) _ made
-          (omega (arith, started (c .before .before .before .before .before .before .before), s .pre .1 .hot-room)),
-      add-comm (l .touched) (c .is-touched .result)
-          ∙ ap₂ _+_ (c .is-touched .ensures ∙ ap (λ m. bit (has m c0 || has m c1)) (c .before .before .before .before .pin-set .ensures)) (l .inv .3)
-          ∙ pass-touched (a .rows .now) (a .buffer .now) (a .inputs) (a .gates) (length (a .hot .now)) (s .pre .1) old (l .hot) (l .gate) h (l .inv .2),
-      omega (arith, c .is-touched .ensures, bit-lt (has union c0 || has union c1)),
+      pass-more (a .rows .now) (a .buffer .now) (a .inputs) (a .gates) (length (a .hot .now)) (s .pre .1) old (l .loop .hot) (l .loop .gate) h (l .loop .inv .2) _ made
+          (l .loop .buffer) (l .loop .inv .1),
+      ap (λ b. set (l .loop .hot) (a .inputs + l .loop .gate) b) alone
+          ∙ hot-more (a .rows .now) (a .buffer .now) (a .inputs) (a .gates) (length (a .hot .now)) (s .pre .1) old (l .loop .hot) (l .loop .gate) h (l .loop .inv .2) _ made
+          (omega (arith, started l, s .pre .1 .hot-room)),
+      add-comm (l .loop .touched) (c .is-touched .result)
+          ∙ ap₂ _+_ (c .is-touched .ensures ∙ ap (λ m. bit (has m c0 || has m c1)) (pins .ensures)) (l .loop .inv .3)
+          ∙ pass-touched (a .rows .now) (a .buffer .now) (a .inputs) (a .gates) (length (a .hot .now)) (s .pre .1) old (l .loop .hot) (l .loop .gate) h (l .loop .inv .2),
+      omega (arith, c .is-touched .ensures, bit-lt (has (pins .result) c0 || has (pins .result) c1)),
     )
 
 same-length : tie.Need-same-length Inv-loop μ-loop
@@ -171,10 +174,10 @@ pass-spec =
     add-s
     pin-set-requires
     word-of-requires
-    cast-gate-class
-    gate-class-requires
-    with-class-requires
+    cast-gate-set
+    gate-set-requires
     slice-write-hot
+    cast-buffer
     slice-write-buffer
     is-touched-requires
     add-touched

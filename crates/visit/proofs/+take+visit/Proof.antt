@@ -3,31 +3,37 @@
 -- The invariant of the visit's loop: what is left of the visit is all that was left on arrival. Assumes nothing.
 use Prim.Native.Nat.{ℕ, _+_, _*_, _-_, _/_, _%_, _≤_, _<_}
 use native.Mathlib.Omega.{arith}
-use mathlib.Core.Path.{_≡_, refl, sym, _∙_, ap, subst}
+use mathlib.Core.Path.{_≡_, sym, _∙_, ap, subst}
 use mathlib.Core.Bool.{true, false, cond}
 use mathlib.Core.List.{List}
 use mathlib.Core.Option.{Option}
 use lib.Dec.{eqb, ltb}
-use lib.ListN.{length, getD}
+use lib.ListN.{length, getD, set}
 use borrow.Author.Needs.{needs}
-use borrow.Author.Tests.{ltb-true}
+use borrow.Author.Tests.{lt-ltb, le-ltb, ltb-true, ltb-false}
 use borrow.Fn.Kinds.{In}
 use borrow.Fn.PlainCycle.{Measures, is, falls, and}
-use Rattle.kung.specs.Class.{ofCode}
-use Rattle.kung.specs.Operation.{opOf, opAt, inverts}
+use Rattle.kung.specs.Class.{code, ofCode}
+use Rattle.kung.specs.Operation.{opOf, opAt, inverts, invertIf}
 use Rattle.kung.specs.Sets.{has, possible, wantedFor}
 use Rattle.kung.specs.Members.{swapIf}
 use Rattle.kung.specs.Tables.{preimage, reach}
-use Rattle.kung.specs.Lookup.{stopSet}
-use Rattle.rows.specs.Rows.{countIn, gateIn, wordIn, rowKind, rowPins}
+use Rattle.kung.specs.Lookup.{joinedBy, stopSet}
+use Rattle.kung.proofs.Finite.{ofCode-code}
+use Rattle.rows.specs.Rows.{countIn, gateIn, invertsIn, wordIn, rowKind, rowPins}
 use Rattle.rows.specs.Lent.{GateRow}
-use Rattle.search.specs.Search.{kept, put, nextOf, Outcome, checks, waits}
-use Rattle.visit.specs.Codes.{waitingOf, checkOf, begunFrom}
-use Rattle.visit.specs.Visits.{tallyOf, Lends, Takes}
-use Rattle.visit.proofs.Sources.{gate-operation, inverts-is, searched-there, pin-is, falling}
-use Rattle.visit.proofs.Checks.{ended, over, wants, untold-searched}
-use Rattle.visit.proofs.Totals.{At, at-put, tally-again}
-use Rattle.visit.proofs.Visits.{Rest, Arrived, untold, takes-told, takes-small, takes-above, rest-first, arrived, rest-ends, rest-next, rest-stopped, begun-next, begun-old, pin-left}
+use Rattle.search.specs.Search.{Cell, kept, put, only, Outcome, checks, waits}
+use Rattle.visit.specs.Codes.{waitingOf, codeOr, checkOf, begunFrom, markOf}
+use Rattle.visit.specs.Cells.{cellIn, cellsIn, knownIn, toldIn, Marks}
+use Rattle.visit.specs.Lent.{SearchReady}
+use Rattle.visit.specs.Visits.{Lends, Takes}
+use Rattle.visit.proofs.Sources.{gate-operation, inverts-is, pin-is, falling}
+use Rattle.visit.proofs.Checks.{ended, over, wants, last-class, last-ends, last-is}
+use Rattle.visit.proofs.Totals.{gates-few}
+use Rattle.visit.proofs.Codes.{code-small, only-code}
+use Rattle.visit.proofs.Cells.{cells-length, open-cell, told-small, untold-searched, begun-next}
+use Rattle.visit.proofs.Visits.{Rest, takes-told, rest-first, rest-ends, rest-next, rest-stopped, Ends, ends-small, ends-put}
+use Rattle.visit.proofs.Turns.{Held, Begun, begins, own-put, put-put, held-length, held-pins, held-after, marks-after, marked-cell, marked-told, marked-large, leaves}
 use Rattle.visit.proofs.take.Reads as take
 use Rattle.visit.proofs.take.Kinds as take-kinds
 use Rattle.visit.proofs.+take+visit.Lts-take as take-lts
@@ -35,49 +41,53 @@ use Rattle.visit.proofs.visit.Reads as visit
 use Rattle.visit.proofs.visit.Kinds as visit-kinds
 use Rattle.visit.proofs.+take+visit.Lts-visit as visit-lts
 use Rattle.kung.proofs.joined_by.Reads as joined-by-reads
+use Rattle.kung.proofs.only_class.Reads as only-class-reads
+use Rattle.kung.proofs.possible_set.Reads as possible-set-reads
 use Rattle.kung.proofs.preimage_of.Reads as preimage-of-reads
 use Rattle.kung.proofs.reach_of.Reads as reach-of-reads
 use Rattle.kung.proofs.stop_bits.Reads as stop-bits-reads
 use Rattle.kung.proofs.swapped.Reads as swapped-reads
 use Rattle.rows.proofs.word_of.Reads as word-of-reads
 use Rattle.visit.proofs.arrive.Reads as arrive-reads
-use Rattle.visit.proofs.check_gate.Reads as check-gate-reads
+use Rattle.visit.proofs.check_known.Reads as check-known-reads
+use Rattle.visit.proofs.check_set.Reads as check-set-reads
+use Rattle.visit.proofs.class_of.Reads as class-of-reads
 use Rattle.visit.proofs.count_in.Reads as count-in-reads
-use Rattle.visit.proofs.count_pin.Reads as count-pin-reads
 use Rattle.visit.proofs.gate_in.Reads as gate-in-reads
 use Rattle.visit.proofs.goal_of.Reads as goal-of-reads
-use Rattle.visit.proofs.is_over.Reads as is-over-reads
-use Rattle.visit.proofs.keep.Reads as keep-reads
+use Rattle.visit.proofs.has_class.Reads as has-class-reads
+use Rattle.visit.proofs.is_told.Reads as is-told-reads
+use Rattle.visit.proofs.known_mark.Reads as known-mark-reads
+use Rattle.visit.proofs.leave.Reads as leave-reads
+use Rattle.visit.proofs.mark_of.Reads as mark-of-reads
+use Rattle.visit.proofs.open_mark.Reads as open-mark-reads
 use Rattle.visit.proofs.pin_at.Reads as pin-at-reads
-use Rattle.visit.proofs.told_at.Reads as told-at-reads
 use Rattle.visit.proofs.waiter_of.Reads as waiter-of-reads
 use Rattle.visit.proofs.+take+visit.{statement}
 use Rattle.visit.proofs.+take+visit.Tie.{close}
 
-abbrev μ-take : Measures 6 take-kinds.ps ℕ
-μ-take κs a = 9 * (a .1 .1 .1 .1 .1 .1 .0) + 9
+abbrev μ-take : Measures 4 take-kinds.ps ℕ
+μ-take κs a = 9 * (a .1 .1 .1 .1 .0) + 9
 
-abbrev μ-visit : Measures 6 visit-kinds.ps ℕ
-μ-visit κs a =
-    let s = a .1 .1 .1 .1 .1 .1 .0 in
-    9 * s + (countIn (wordIn (a .1 .1 .0 .now) s) - nextOf (getD (a .1 .1 .1 .1 .0 .now) s 0))
+abbrev μ-visit : Measures 4 visit-kinds.ps ℕ
+μ-visit κs a = let s = a .1 .1 .1 .1 .0 in 9 * s + (countIn (wordIn (a .1 .0 .now) s) - (getD (a .1 .1 .0 .now) s 0 / 8 - 2))
 
-abbrev take-at : ℕ → In 6 take-kinds.ps
-take-at t = and 6 take-kinds.ps (is 6 take-kinds.ps μ-take t) take.Pre
+abbrev take-at : ℕ → In 4 take-kinds.ps
+take-at t = and 4 take-kinds.ps (is 4 take-kinds.ps μ-take t) take.Pre
 
-abbrev take-below : ℕ → In 6 take-kinds.ps
-take-below t = and 6 take-kinds.ps (falls 6 take-kinds.ps _<_ μ-take t) take.Pre
+abbrev take-below : ℕ → In 4 take-kinds.ps
+take-below t = and 4 take-kinds.ps (falls 4 take-kinds.ps _<_ μ-take t) take.Pre
 
-abbrev visit-at : ℕ → In 6 visit-kinds.ps
-visit-at t = and 6 visit-kinds.ps (is 6 visit-kinds.ps μ-visit t) visit.Pre
+abbrev visit-at : ℕ → In 4 visit-kinds.ps
+visit-at t = and 4 visit-kinds.ps (is 4 visit-kinds.ps μ-visit t) visit.Pre
 
-abbrev visit-below : ℕ → In 6 visit-kinds.ps
-visit-below t = and 6 visit-kinds.ps (falls 6 visit-kinds.ps _<_ μ-visit t) visit.Pre
+abbrev visit-below : ℕ → In 4 visit-kinds.ps
+visit-below t = and 4 visit-kinds.ps (falls 4 visit-kinds.ps _<_ μ-visit t) visit.Pre
 
 abbrev take-calls : ℕ → take-lts.Claims
 take-calls t = (
-  told-at-reads.Asked,
-  told-at-reads.Learnt,
+  is-told-reads.Asked,
+  is-told-reads.Learnt,
   joined-by-reads.Asked,
   joined-by-reads.Learnt,
   preimage-of-reads.Asked,
@@ -102,88 +112,103 @@ visit-calls t = (
   stop-bits-reads.Learnt,
   arrive-reads.Asked,
   arrive-reads.Learnt,
-  is-over-reads.Asked,
-  is-over-reads.Learnt,
-  check-gate-reads.Asked,
-  check-gate-reads.Learnt,
+  class-of-reads.Asked,
+  class-of-reads.Learnt,
+  known-mark-reads.Asked,
+  known-mark-reads.Learnt,
+  leave-reads.Asked,
+  leave-reads.Learnt,
+  check-known-reads.Asked,
+  check-known-reads.Learnt,
+  has-class-reads.Asked,
+  has-class-reads.Learnt,
+  possible-set-reads.Asked,
+  possible-set-reads.Learnt,
+  only-class-reads.Asked,
+  only-class-reads.Learnt,
+  mark-of-reads.Asked,
+  mark-of-reads.Learnt,
+  check-set-reads.Asked,
+  check-set-reads.Learnt,
   pin-at-reads.Asked,
   pin-at-reads.Learnt,
-  count-pin-reads.Asked,
-  count-pin-reads.Learnt,
   goal-of-reads.Asked,
   goal-of-reads.Learnt,
   waiter-of-reads.Asked,
   waiter-of-reads.Learnt,
   take-below t,
   take.Post,
-  keep-reads.Asked,
-  keep-reads.Learnt,
+  open-mark-reads.Asked,
+  open-mark-reads.Learnt,
 )
 
-take-told-at-requires : (t : ℕ) → take-lts.Need-told-at-requires (take-calls t) (take-at t) take.Post
-take-told-at-requires t c κs = search needs
+take-slice-read-byte : (t : ℕ) → take-lts.Need-slice-read-byte (take-calls t) (take-at t) take.Post
+take-slice-read-byte t c = c .before .before .before .pre .1 .1 .0 .there
+
+take-is-told-requires : (t : ℕ) → take-lts.Need-is-told-requires (take-calls t) (take-at t) take.Post
+take-is-told-requires t c κs = search needs
 
 take-joined-by-requires : (t : ℕ) → take-lts.Need-joined-by-requires (take-calls t) (take-at t) take.Post
-take-joined-by-requires t c κs = search needs
-
-take-same-length : (t : ℕ) → take-lts.Need-same-length (take-calls t) (take-at t) take.Post
-take-same-length t c = search needs
+take-joined-by-requires t c κs =
+    let s = c .before .before .before .before .before in
+    (s .pre .1 .0 .table-is, omega (arith, s .pre .1 .1 .1))
 
 take-returns : (t : ℕ) → take-lts.Need-returns (take-calls t) (take-at t) take.Post
 take-returns t c =
     let d = c .before .before in
-    let s = d .before .before .before .before .before in
+    let s = d .before .before .before .before in
     let a = s .args in
-    takes-told (a .rows .now) (a .known .now) (a .x) _ (a .waiter) (a .cells .now) (a .tally .now) (d .told-at .result) (c .joined-by .result)
-    (d .told-at .ensures) (c .before .if1 .taken) (c .joined-by .ensures) (s .pre .1 .1 .0 .tallied)
+    takes-told (a .rows .now) (a .x) _ (a .waiter) (a .cells .now) (a .tally .now) (c .joined-by .result) (s .pre .1 .1 .0)
+    (ltb-true (toldIn (getD (a .cells .now) (a .x) 0)) 8 (sym (d .is-told .ensures) ∙ c .before .if1 .taken)) (c .joined-by .ensures)
 
 take-preimage-of-requires : (t : ℕ) → take-lts.Need-preimage-of-requires (take-calls t) (take-at t) take.Post
-take-preimage-of-requires t c κs = search needs
+take-preimage-of-requires t c κs =
+    let s = c .before .before .before .before .before in
+    (s .pre .1 .0 .table-is, s .pre .1 .1 .1)
 
 take-visit-requires : (t : ℕ) → take-lts.Need-visit-requires (take-calls t) (take-at t) take.Post
 take-visit-requires t c κs =
     let e = c .before .before .before in
     let d = e .before in
-    let s = d .before .before .before .before .before in
+    let s = d .before .before .before .before in
     let a = s .args in
-    let nothing = untold (a .rows .now) (a .known .now) (a .cells .now) (a .x) (d .told-at .result) (d .told-at .ensures) (e .if1 .left) in
-    let row = s .pre .1 .0 .gates-only (a .x) (untold-searched (a .rows .now) (a .known .now) (a .cells .now) (a .x) nothing) in
-    (omega (arith, s .pre .0, row .count-eight), (s .pre .1 .0, (s .pre .1 .1 .0, nothing, omega (arith, s .pre .1 .1 .2))))
+    let b = getD (a .cells .now) (a .x) 0 in
+    let nothing : toldIn b ≡ 8 = omega (arith, told-small b, ltb-false (toldIn b) 8 (sym (d .is-told .ensures) ∙ e .if1 .left)) in
+    let row = s .pre .1 .0 .gates-only (a .x) (untold-searched (a .cells .now) (a .x) nothing) in
+    (omega (arith, s .pre .0, row .count-eight), (s .pre .1 .0, (s .pre .1 .1 .0, nothing, omega (arith, s .pre .1 .1 .1))))
 
-take-same-length-2 : (t : ℕ) → take-lts.Need-same-length-2 (take-calls t) (take-at t) take.Post
-take-same-length-2 t c = search needs
+take-same-length : (t : ℕ) → take-lts.Need-same-length (take-calls t) (take-at t) take.Post
+take-same-length t c = search needs
 
 take-returns-2 : (t : ℕ) → take-lts.Need-returns-2 (take-calls t) (take-at t) take.Post
 take-returns-2 t c =
     let v = c .before .before in
     let q = v .before .before .before in
-    let a = q .before .before .before .before .before .before .before .args in
+    let a = q .before .before .before .before .before .before .args in
     subst
-    (λ w. Takes (a .rows .now) (a .known .now) (a .x) w (a .waiter) (a .cells .now) (v .visit .last .1 .1 .1 .1 .0) (v .visit .last .1 .1 .1 .1 .1 .0) (v .visit .result))
+    (λ w. Takes (a .rows .now) (a .x) w (a .waiter) (a .cells .now) (v .visit .last .1 .1 .0) (v .visit .last .1 .1 .1 .0) (v .visit .result))
     (q .preimage-of .ensures) (v .visit .ensures)
 
 abbrev visit-Inv-loop : visit-lts.InvT-loop
-visit-Inv-loop images lookup rows known cells₀ tally₀ s wanted waiter word gate count want reach stop cell p₀ next₀ cells tally p next =
-    Lends s cells tally × (length cells ≡ length cells₀) × (next₀ ≤ next) × At s next cells × Rest rows known s wanted waiter p₀ next₀ cells₀ p next cells
+visit-Inv-loop table rows cells₀ tally₀ s wanted waiter word gate count want reach stop begun p₀ next₀ first cells tally p next =
+    Held rows s begun cells₀ cells tally × Marks rows cells s × (first ≤ next) × (next ≤ 13) × (p < 8)
+    × Rest rows (knownIn cells₀) s wanted waiter (begun % 8) (begun / 8 - 2) (cellsIn rows cells₀) p next (put (cellsIn rows cells) s (kept (ofCode p) next))
 
 abbrev visit-μ-loop : visit-lts.MeasureT-loop
-visit-μ-loop images lookup rows known cells₀ tally₀ s wanted waiter word gate count want reach stop cell p₀ next₀ cells tally p next =
-    count - next
+visit-μ-loop table rows cells₀ tally₀ s wanted waiter word gate count want reach stop begun p₀ next₀ first cells tally p next = count - next
 
 -- the gate that is visited
 visit-row : (t : ℕ) (c : visit-lts.Start (visit-calls t) (visit-at t) visit.Post visit-Inv-loop visit-μ-loop) → GateRow (c .args .rows .now) (c .args .s)
-visit-row t c =
-    let a = c .args in
-    c .pre .1 .0 .gates-only (a .s) (untold-searched (a .rows .now) (a .known .now) (a .cells .now) (a .s) (c .pre .1 .1 .1))
+visit-row t c = let a = c .args in c .pre .1 .0 .gates-only (a .s) (untold-searched (a .cells .now) (a .s) (c .pre .1 .1 .1))
 
 visit-word-of-requires : (t : ℕ) → visit-lts.Need-word-of-requires (visit-calls t) (visit-at t) visit.Post visit-Inv-loop visit-μ-loop
-visit-word-of-requires t c κs = visit-row t (c .before .before .before) .inside
+visit-word-of-requires t c κs = visit-row t (c .before .before) .inside
 
 visit-gate-in-requires : (t : ℕ) → visit-lts.Need-gate-in-requires (visit-calls t) (visit-at t) visit.Post visit-Inv-loop visit-μ-loop
 visit-gate-in-requires t c κs = search needs
 
 visit-count-in-requires : (t : ℕ) → visit-lts.Need-count-in-requires (visit-calls t) (visit-at t) visit.Post visit-Inv-loop visit-μ-loop
-visit-count-in-requires t c κs = omega (arith, c .before .word-of .ensures, visit-row t (c .before .before .before .before .before) .count-eight)
+visit-count-in-requires t c κs = omega (arith, c .before .word-of .ensures, visit-row t (c .before .before .before .before) .count-eight)
 
 visit-swapped-requires : (t : ℕ) → visit-lts.Need-swapped-requires (visit-calls t) (visit-at t) visit.Post visit-Inv-loop visit-μ-loop
 visit-swapped-requires t c κs = search needs
@@ -195,7 +220,13 @@ visit-stop-bits-requires : (t : ℕ) → visit-lts.Need-stop-bits-requires (visi
 visit-stop-bits-requires t c κs = search needs
 
 visit-arrive-requires : (t : ℕ) → visit-lts.Need-arrive-requires (visit-calls t) (visit-at t) visit.Post visit-Inv-loop visit-μ-loop
-visit-arrive-requires t c κs = search needs
+visit-arrive-requires t c κs =
+    let s = c .before .before .before .before .before .before .before .before .before .before in
+    let l = s .pre .1 .1 .0 in
+    let cells = cellsIn (s .args .rows .now) (s .args .cells .now) in (
+      l .there,
+      omega (arith, ap (λ t. getD t 0 0) (l .tallied), gates-few cells, cells-length (s .args .rows .now) (s .args .cells .now), l .few),
+    )
 
 -- on arrival
 module _ (t : ℕ) (c : visit-lts.After-arrive (visit-calls t) (visit-at t) visit.Post visit-Inv-loop visit-μ-loop) where
@@ -203,7 +234,7 @@ module _ (t : ℕ) (c : visit-lts.After-arrive (visit-calls t) (visit-at t) visi
   gated = c .before .before .before .before .before .before .before
 
   abbrev entered : visit-lts.Start (visit-calls t) (visit-at t) visit.Post visit-Inv-loop visit-μ-loop
-  entered = gated .before .before .before .before .before
+  entered = gated .before .before .before .before
 
   word-is : gated .before .word-of .result ≡ wordIn (entered .args .rows .now) (entered .args .s)
   word-is = gated .before .word-of .ensures
@@ -211,35 +242,41 @@ module _ (t : ℕ) (c : visit-lts.After-arrive (visit-calls t) (visit-at t) visi
   gate-is : gated .gate-in .result ≡ gateIn (wordIn (entered .args .rows .now) (entered .args .s))
   gate-is = gated .gate-in .ensures ∙ ap gateIn word-is
 
-  cell-old : 128 ≤ c .arrive .result
-  cell-old = omega (arith, c .arrive .ensures .begun, begun-old (gated .gate-in .result) (getD (entered .args .cells .now) (entered .args .s) 0))
+  byte-is : c .arrive .result ≡ begunFrom (gateIn (wordIn (entered .args .rows .now) (entered .args .s))) (getD (entered .args .cells .now) (entered .args .s) 0)
+  byte-is = c .arrive .ensures .0 ∙ ap (λ g. begunFrom g (getD (entered .args .cells .now) (entered .args .s) 0)) gate-is
 
-  cell-next : nextOf (c .arrive .result) ≡ nextOf (getD (entered .args .cells .now) (entered .args .s) 0)
-  cell-next = ap nextOf (c .arrive .ensures .begun) ∙ begun-next (gated .gate-in .result) (getD (entered .args .cells .now) (entered .args .s) 0)
+  begun-at : Begun (entered .args .rows .now) (entered .args .s) (entered .args .wanted) (entered .args .waiter) (entered .args .cells .now)
+      (c .arrive .result) (c .arrive .last .0) (c .arrive .last .1 .0)
+  begun-at =
+      let a = entered .args in
+      begins (a .rows .now) (a .s) (a .wanted) (a .waiter) (a .cells .now) (a .tally .now) (entered .pre .1 .1 .0) (entered .pre .1 .1 .1) (c .arrive .result)
+      byte-is (c .arrive .last .0) (c .arrive .last .1 .0) (c .arrive .ensures .1 .0) (c .arrive .ensures .1 .1)
 
 visit-sub-next : (t : ℕ) → visit-lts.Need-sub-next (visit-calls t) (visit-at t) visit.Post visit-Inv-loop visit-μ-loop
-visit-sub-next t c = omega (arith, cell-old t (c .before .before))
+visit-sub-next t c = omega (arith, begun-at t (c .before .before) .large)
 
 visit-loop-holds : (t : ℕ) → visit-lts.Need-loop-holds (visit-calls t) (visit-at t) visit.Post visit-Inv-loop visit-μ-loop
 visit-loop-holds t c =
     let v = c .before .before in
-    let s = entered t v in
-    let a = s .args in
+    let a = entered t v .args in
     let b = v .arrive .result in
-    let w = v .arrive .ensures .writes in
-    let same : length (v .arrive .last .0) ≡ length (a .cells .now) = v .arrive .kept .0 in
-    let there : a .s < length (a .cells .now) = s .pre .1 .1 .0 .there in (
-      record { there = omega arith; few = omega (arith, s .pre .1 .1 .0 .few); tallied = w .tallied },
-      refl,
+    let rows = a .rows .now in
+    let at = begun-at t v in
+    let cells = cellsIn rows (v .arrive .last .0) in (
+      at .held,
+      at .marked,
       omega arith,
-      subst (At (a .s) (nextOf b)) (sym (w .cells)) (at-put (a .cells .now) (a .s) (ofCode b) (nextOf b) there),
-      rest-first (a .rows .now) (a .known .now) (a .s) (a .wanted) (a .waiter) _ _ _,
+      omega (arith, at .less),
+      omega arith,
+      subst (Rest rows (knownIn (v .arrive .last .0)) (a .s) (a .wanted) (a .waiter) (b % 8) (b / 8 - 2) cells (b % 8) (b / 8 - 2))
+          (own-put rows (a .s) b (v .arrive .last .0) (at .held .own) (at .large) (at .less))
+          (rest-first rows (knownIn (v .arrive .last .0)) (a .s) (a .wanted) (a .waiter) (b % 8) (b / 8 - 2) cells),
     )
 
--- in the loop, after the stop bits were looked at
-module _ (t : ℕ) (c : visit-lts.After-is-over (visit-calls t) (visit-at t) visit.Post visit-Inv-loop visit-μ-loop) where
+-- in the loop
+module _ (t : ℕ) (c : visit-lts.At-loop (visit-calls t) (visit-at t) visit.Post visit-Inv-loop visit-μ-loop) where
   abbrev here : visit-lts.After-arrive (visit-calls t) (visit-at t) visit.Post visit-Inv-loop visit-μ-loop
-  here = c .before .before .before .before
+  here = c .before .before .before
 
   abbrev counting : visit-lts.After-count-in (visit-calls t) (visit-at t) visit.Post visit-Inv-loop visit-μ-loop
   counting = here .before .before .before .before .before .before
@@ -247,23 +284,32 @@ module _ (t : ℕ) (c : visit-lts.After-is-over (visit-calls t) (visit-at t) vis
   abbrev begin : visit-lts.Start (visit-calls t) (visit-at t) visit.Post visit-Inv-loop visit-μ-loop
   begin = entered t here
 
-  abbrev Word : ℕ
-  Word = wordIn (begin .args .rows .now) (begin .args .s)
+  abbrev Rows : List ℕ
+  Rows = begin .args .rows .now
+
+  abbrev Signal : ℕ
+  Signal = begin .args .s
+
+  abbrev Entry : List ℕ
+  Entry = begin .args .cells .now
+
+  abbrev Byte : ℕ
+  Byte = here .arrive .result
 
   abbrev Gate : ℕ
   Gate = gated t here .gate-in .result
 
-  row : GateRow (begin .args .rows .now) (begin .args .s)
+  row : GateRow Rows Signal
   row = visit-row t begin
 
-  count-is : counting .count-in .result ≡ countIn Word
+  count-is : counting .count-in .result ≡ countIn (wordIn Rows Signal)
   count-is = counting .count-in .ensures ∙ ap countIn (word-is t here)
 
-  operation : opAt Gate ≡ opOf (rowKind (begin .args .rows .now) (begin .args .s))
-  operation = ap opAt (gate-is t here) ∙ gate-operation Word
+  operation : opAt Gate ≡ opOf (rowKind Rows Signal)
+  operation = ap opAt (gate-is t here) ∙ gate-operation (wordIn Rows Signal)
 
-  inversion : eqb (Gate / 2) 1 ≡ inverts (rowKind (begin .args .rows .now) (begin .args .s))
-  inversion = ap (λ g. eqb (g / 2) 1) (gate-is t here) ∙ inverts-is Word
+  inversion : eqb (Gate / 2) 1 ≡ inverts (rowKind Rows Signal)
+  inversion = ap (λ g. eqb (g / 2) 1) (gate-is t here) ∙ inverts-is (wordIn Rows Signal)
 
   want-is : here .before .before .before .before .before .swapped .result ≡ swapIf (eqb (Gate / 2) 1) (begin .args .wanted)
   want-is = here .before .before .before .before .before .swapped .ensures
@@ -275,74 +321,164 @@ module _ (t : ℕ) (c : visit-lts.After-is-over (visit-calls t) (visit-at t) vis
       ≡ stopSet (begin .args .waiter) Gate (reach (opAt Gate) (swapIf (eqb (Gate / 2) 1) (begin .args .wanted)))
   stop-is = here .before .before .before .stop-bits .ensures ∙ ap (stopSet (begin .args .waiter) Gate) reach-is
 
-  -- the checks, by the row's kind
+  -- the possible set and the checks, by the row's kind
+  abbrev Set : ℕ
+  Set = possible (opOf (rowKind Rows Signal)) (inverts (rowKind Rows Signal)) (ofCode (c .loop .p)) (ltb (c .loop .next) (countIn (wordIn Rows Signal)))
+
   abbrev Checked : Option Outcome
-  Checked =
-      checks
-      (possible (opOf (rowKind (begin .args .rows .now) (begin .args .s))) (inverts (rowKind (begin .args .rows .now) (begin .args .s)))
-      (ofCode (c .before .loop .p)) (ltb (c .before .loop .next) (countIn Word)))
-      (begin .args .wanted) (waitingOf (begin .args .waiter))
+  Checked = checks Set (begin .args .wanted) (waitingOf (begin .args .waiter))
 
-  over-is : c .is-over .result ≡ ended Checked
-  over-is =
-      c .is-over .ensures
-      ∙ (λ i. cond (ltb (c .before .loop .next) (count-is i)) (has (stop-is i) (ofCode (c .before .loop .p))) true)
-      ∙ over (rowKind (begin .args .rows .now) (begin .args .s)) Gate (begin .args .waiter) (begin .args .wanted) operation inversion
-      (ofCode (c .before .loop .p)) (ltb (c .before .loop .next) (countIn Word))
-      ∙ (λ i.
-      ended
-      (checks (possible (operation i) (inversion i) (ofCode (c .before .loop .p)) (ltb (c .before .loop .next) (countIn Word))) (begin .args .wanted)
-      (waitingOf (begin .args .waiter))))
+  rest-is : Rest Rows (knownIn Entry) Signal (begin .args .wanted) (begin .args .waiter) (Byte % 8) (Byte / 8 - 2) (cellsIn Rows (here .arrive .last .0))
+      (c .loop .p) (c .loop .next) (put (cellsIn Rows (c .loop .cells)) Signal (kept (ofCode (c .loop .p)) (c .loop .next)))
+  rest-is =
+      subst
+      (λ k.
+      Rest Rows k Signal (begin .args .wanted) (begin .args .waiter) (Byte % 8) (Byte / 8 - 2) (cellsIn Rows (here .arrive .last .0)) (c .loop .p)
+      (c .loop .next) (put (cellsIn Rows (c .loop .cells)) Signal (kept (ofCode (c .loop .p)) (c .loop .next))))
+      (begun-at t here .known) (c .loop .inv .5)
 
-  begun : Arrived (begin .args .rows .now) (begin .args .known .now) (begin .args .s) (begin .args .wanted) (begin .args .waiter) (begin .args .cells .now)
-      (here .arrive .result % 8) (here .arrive .result / 8 - 16) (here .arrive .last .0)
-  begun =
+  long : length (c .loop .cells) ≡ length Entry
+  long = held-length Rows Signal Byte (here .arrive .last .0) (c .loop .cells) (c .loop .tally) (c .loop .inv .0) ∙ here .arrive .kept .0
+
+  room : getD (c .loop .tally) 1 0 ≤ 36864
+  room = held-pins Rows Signal Byte (here .arrive .last .0) (c .loop .cells) (c .loop .tally) (c .loop .inv .0)
+
+  -- the checks end the visit, and the gate's byte is written
+  checked : (class mark r : ℕ) (exit tally : List ℕ) → class ≡ codeOr (only Set) → mark ≡ markOf class (c .loop .p) (c .loop .next) → mark < 256
+      → exit ≡ set (c .loop .cells) Signal mark
+      → tally ≡ set (c .loop .tally) 1 (getD (c .loop .tally) 1 0 + (c .loop .next - (Byte / 8 - 2))) → ended Checked ≡ true
+      → r ≡ checkOf (waitingOf (begin .args .waiter)) Checked
+      → Takes Rows Signal (begin .args .wanted) (begin .args .waiter) Entry exit tally r
+  checked class mark r exit tally found is-mark fits left counted over h =
       let a = begin .args in
-      arrived (a .rows .now) (a .known .now) (a .s) (a .wanted) (a .waiter) (a .cells .now) (begin .pre .1 .1 .1) (here .arrive .result)
-      (here .arrive .ensures .begun ∙ ap (λ g. begunFrom g (getD (a .cells .now) (a .s) 0)) (gate-is t here)) (here .arrive .last .0)
-      (here .arrive .ensures .writes .cells)
+      let l = c .loop in
+      leaves Rows Signal (a .wanted) (a .waiter) Byte Entry (here .arrive .last .0) (here .arrive .last .1 .0) (l .cells) (l .tally) (begun-at t here)
+      (l .inv .0) (l .p) (l .next) mark (marked-cell Rows Signal (l .p) (l .next) class mark found (l .inv .3) is-mark)
+      (marked-large Rows Signal (l .p) (l .next) class mark found (l .inv .3) is-mark) fits (l .inv .2) exit tally left counted r
+      (rest-ends Rows (knownIn Entry) Signal (a .wanted) (a .waiter) (Byte % 8) (Byte / 8 - 2) (cellsIn Rows (here .arrive .last .0)) (l .p) (l .next)
+      (put (cellsIn Rows (l .cells)) Signal (kept (ofCode (l .p)) (l .next))) rest-is (cellsIn Rows Entry) (begun-at t here .starts) over r h)
+      (λ small. (l .inv .1, marked-told Rows Signal (l .p) (l .next) class mark found (l .inv .3) is-mark))
 
-visit-is-over-requires : (t : ℕ) → visit-lts.Need-is-over-requires (visit-calls t) (visit-at t) visit.Post visit-Inv-loop visit-μ-loop
-visit-is-over-requires t c κs = search needs
+visit-class-of-requires : (t : ℕ) → visit-lts.Need-class-of-requires (visit-calls t) (visit-at t) visit.Post visit-Inv-loop visit-μ-loop
+visit-class-of-requires t c κs = omega (arith, gated t (here t (c .before)) .gate-in .ensures)
 
-visit-check-gate-requires : (t : ℕ) → visit-lts.Need-check-gate-requires (visit-calls t) (visit-at t) visit.Post visit-Inv-loop visit-μ-loop
-visit-check-gate-requires t c κs = search needs
+visit-known-mark-requires : (t : ℕ) → visit-lts.Need-known-mark-requires (visit-calls t) (visit-at t) visit.Post visit-Inv-loop visit-μ-loop
+visit-known-mark-requires t c κs =
+    let k = c .before .before in
+    let l = k .before .before in
+    (omega (arith, k .class-of .ensures, code-small (invertIf (eqb (Gate t l / 2) 1) (ofCode (l .loop .p)))), l .loop .inv .3)
+
+visit-sub-leave : (t : ℕ) → visit-lts.Need-sub-leave (visit-calls t) (visit-at t) visit.Post visit-Inv-loop visit-μ-loop
+visit-sub-leave t c = c .before .before .before .before .before .loop .inv .2
+
+visit-leave-requires : (t : ℕ) → visit-lts.Need-leave-requires (visit-calls t) (visit-at t) visit.Post visit-Inv-loop visit-μ-loop
+visit-leave-requires t c κs =
+    let l = c .before .before .before .before .before in
+    (l .loop .inv .0 .there, room t l)
+
+visit-check-known-requires : (t : ℕ) → visit-lts.Need-check-known-requires (visit-calls t) (visit-at t) visit.Post visit-Inv-loop visit-μ-loop
+visit-check-known-requires t c κs =
+    let s = begin t (c .before .before .before .before .before .before .before .before) in
+    (s .pre .1 .0 .table-is, s .pre .1 .1 .2)
 
 visit-same-length : (t : ℕ) → visit-lts.Need-same-length (visit-calls t) (visit-at t) visit.Post visit-Inv-loop visit-μ-loop
-visit-same-length t c = search needs
+visit-same-length t c =
+    let l = c .before .before .before .before .before .before .before .before .before in
+    c .before .before .before .leave .kept .0 ∙ long t l
 
 visit-returns : (t : ℕ) → visit-lts.Need-returns (visit-calls t) (visit-at t) visit.Post visit-Inv-loop visit-μ-loop
 visit-returns t c =
-    let g = c .before .before in
-    let a = begin t g .args in
-    let l = g .before .loop in
-    rest-ends (a .rows .now) (a .known .now) (a .s) (a .wanted) (a .waiter) _ _ (here t g .arrive .last .0) (l .p) (l .next) (l .cells) (l .inv .4)
-    (a .cells .now) (begun t g) (sym (over-is t g) ∙ c .before .if1 .taken) (l .tally) (l .inv .0 .tallied) (c .check-gate .result)
-    (c .check-gate .ensures
-    ∙ (λ i.
-    checkOf (waitingOf (a .waiter))
-    (checks (possible (operation t g i) (inversion t g i) (ofCode (l .p)) (ltb (l .next) (count-is t g i))) (a .wanted) (waitingOf (a .waiter)))))
+    let v = c .before .before .before in
+    let m = v .before in
+    let k = m .before .before .before in
+    let e = k .before in
+    let l = e .before in
+    let a = begin t l .args in
+    let d = rowKind (Rows t l) (Signal t l) in
+    let none : ltb (l .loop .next) (countIn (wordIn (Rows t l) (Signal t l))) ≡ false = le-ltb (l .loop .next) (countIn (wordIn (Rows t l) (Signal t l))) (omega (arith, count-is t l, e .if1 .taken)) in
+    let last : k .class-of .result ≡ code (invertIf (inverts d) (ofCode (l .loop .p))) = k .class-of .ensures ∙ ap (λ v. code (invertIf v (ofCode (l .loop .p)))) (inversion t l) in
+    let own : ofCode (k .class-of .result) ≡ invertIf (inverts d) (ofCode (l .loop .p)) = ap ofCode last ∙ ofCode-code (invertIf (inverts d) (ofCode (l .loop .p))) in
+    let small : k .class-of .result < 8 = omega (arith, last, code-small (invertIf (inverts d) (ofCode (l .loop .p)))) in
+    checked t l (k .class-of .result) (m .known-mark .result) (c .check-known .result) (v .leave .last .0) (v .leave .last .1 .0)
+    (rw none (last ∙ sym (last-class d (ofCode (l .loop .p)) (a .wanted) (a .waiter))))
+    (rw (lt-ltb (k .class-of .result) 8 small) (m .known-mark .ensures)) (omega arith) (v .leave .ensures .0) (v .leave .ensures .1)
+    (rw none (last-ends d (ofCode (l .loop .p)) (a .wanted) (a .waiter)))
+    (rw none (c .check-known .ensures ∙ ap (λ k. cond (has (a .wanted) k) (code (joinedBy (a .waiter) k)) 8) own ∙ last-is d (ofCode (l .loop .p)) (a .wanted) (a .waiter)))
 
--- a pin is left where the visit goes on
-left-on : (t : ℕ) (c : visit-lts.Else1 (visit-calls t) (visit-at t) visit.Post visit-Inv-loop visit-μ-loop) → c .before .before .loop .next < countIn (Word t (c .before))
-left-on t c =
-    let g = c .before in
-    let l = g .before .loop in
-    let n = counting t g .count-in .result in
-    let less : l .next < n = ltb-true (l .next) n (pin-left (ltb (l .next) n) (has (here t g .before .before .before .stop-bits .result) (ofCode (l .p))) (sym (g .is-over .ensures) ∙ c .if1 .left)) in
-    omega (arith, count-is t g)
+-- a pin is left, and the stop bits were looked at
+module _ (t : ℕ) (c : visit-lts.After-has-class (visit-calls t) (visit-at t) visit.Post visit-Inv-loop visit-μ-loop) where
+  abbrev turn : visit-lts.At-loop (visit-calls t) (visit-at t) visit.Post visit-Inv-loop visit-μ-loop
+  turn = c .before .before
+
+  more-pins : turn .loop .next < countIn (wordIn (Rows t turn) (Signal t turn))
+  more-pins = omega (arith, count-is t turn, c .before .if1 .left)
+
+  more : ltb (turn .loop .next) (countIn (wordIn (Rows t turn) (Signal t turn))) ≡ true
+  more = lt-ltb (turn .loop .next) (countIn (wordIn (Rows t turn) (Signal t turn))) more-pins
+
+  over-is : c .has-class .result ≡ ended (Checked t turn)
+  over-is =
+      let a = begin t turn .args in
+      let p = ofCode (turn .loop .p) in
+      c .has-class .ensures ∙ ap (λ m. has m p) (stop-is t turn) ∙ over (Gate t turn) (a .waiter) (a .wanted) p
+      ∙ (λ i. ended (checks (possible (operation t turn i) (inversion t turn i) p (sym more i)) (a .wanted) (waitingOf (a .waiter))))
+
+visit-has-class-requires : (t : ℕ) → visit-lts.Need-has-class-requires (visit-calls t) (visit-at t) visit.Post visit-Inv-loop visit-μ-loop
+visit-has-class-requires t c κs = search needs
+
+visit-possible-set-requires : (t : ℕ) → visit-lts.Need-possible-set-requires (visit-calls t) (visit-at t) visit.Post visit-Inv-loop visit-μ-loop
+visit-possible-set-requires t c κs = search needs
+
+visit-only-class-requires : (t : ℕ) → visit-lts.Need-only-class-requires (visit-calls t) (visit-at t) visit.Post visit-Inv-loop visit-μ-loop
+visit-only-class-requires t c κs = search needs
+
+visit-mark-of-requires : (t : ℕ) → visit-lts.Need-mark-of-requires (visit-calls t) (visit-at t) visit.Post visit-Inv-loop visit-μ-loop
+visit-mark-of-requires t c κs = c .before .before .before .before .before .before .before .loop .inv .3
+
+visit-sub-leave-2 : (t : ℕ) → visit-lts.Need-sub-leave-2 (visit-calls t) (visit-at t) visit.Post visit-Inv-loop visit-μ-loop
+visit-sub-leave-2 t c = c .before .before .before .before .before .before .before .before .loop .inv .2
+
+visit-leave-requires-2 : (t : ℕ) → visit-lts.Need-leave-requires-2 (visit-calls t) (visit-at t) visit.Post visit-Inv-loop visit-μ-loop
+visit-leave-requires-2 t c κs =
+    let l = c .before .before .before .before .before .before .before .before in
+    (l .loop .inv .0 .there, room t l)
+
+visit-check-set-requires : (t : ℕ) → visit-lts.Need-check-set-requires (visit-calls t) (visit-at t) visit.Post visit-Inv-loop visit-μ-loop
+visit-check-set-requires t c κs =
+    let o = c .before .before .before .before .before .before in
+    let s = begin t (o .before .before .before .before .before) in
+    (s .pre .1 .0 .table-is, s .pre .1 .1 .2, o .only-class .ensures ∙ only-code (o .before .possible-set .result) (omega arith))
+
+visit-same-length-2 : (t : ℕ) → visit-lts.Need-same-length-2 (visit-calls t) (visit-at t) visit.Post visit-Inv-loop visit-μ-loop
+visit-same-length-2 t c =
+    let v = c .before .before .before in
+    v .leave2 .kept .0 ∙ long t (turn t (v .before .before .before .before .before .before .before))
+
+visit-returns-2 : (t : ℕ) → visit-lts.Need-returns-2 (visit-calls t) (visit-at t) visit.Post visit-Inv-loop visit-μ-loop
+visit-returns-2 t c =
+    let v = c .before .before .before in
+    let m = v .before in
+    let o = m .before .before .before in
+    let q = o .before in
+    let h = q .before .before in
+    let l = turn t h in
+    let a = begin t l .args in
+    let set-is : q .possible-set .result ≡ Set t l =
+    q .possible-set .ensures ∙ (λ i. possible (operation t l i) (inversion t l i) (ofCode (l .loop .p)) (sym (more t h) i))
+    in
+    checked t l (o .only-class .result) (m .mark-of .result) (c .check-set .result) (v .leave2 .last .0) (v .leave2 .last .1 .0)
+    (o .only-class .ensures ∙ only-code (q .possible-set .result) (omega arith) ∙ ap (λ m. codeOr (only m)) set-is) (m .mark-of .ensures) (omega arith)
+    (v .leave2 .ensures .0) (v .leave2 .ensures .1) (sym (over-is t h) ∙ q .before .if2 .taken)
+    (c .check-set .ensures ∙ ap (λ m. checkOf (waitingOf (a .waiter)) (checks m (a .wanted) (waitingOf (a .waiter)))) set-is)
 
 visit-pin-at-requires : (t : ℕ) → visit-lts.Need-pin-at-requires (visit-calls t) (visit-at t) visit.Post visit-Inv-loop visit-μ-loop
-visit-pin-at-requires t c κs = (row t (c .before) .inside, omega (arith, left-on t c, row t (c .before) .count-eight))
+visit-pin-at-requires t c κs =
+    let h = c .before in
+    let r = row t (turn t h) in
+    (r .inside, omega (arith, more-pins t h, r .count-eight))
 
 visit-add-next : (t : ℕ) → visit-lts.Need-add-next (visit-calls t) (visit-at t) visit.Post visit-Inv-loop visit-μ-loop
-visit-add-next t c = omega (arith, left-on t (c .before), row t (c .before .before) .count-eight)
-
-visit-count-pin-requires : (t : ℕ) → visit-lts.Need-count-pin-requires (visit-calls t) (visit-at t) visit.Post visit-Inv-loop visit-μ-loop
-visit-count-pin-requires t c κs =
-    let o = c .before .before .before in
-    let l = o .before .before .loop in
-    (l .inv .0, (l .inv .3 .seen, omega (arith, l .inv .3 .next-is), omega (arith, left-on t o, row t (o .before) .count-eight)))
+visit-add-next t c = let h = c .before .before in omega (arith, more-pins t h, row t (turn t h) .count-eight)
 
 visit-goal-of-requires : (t : ℕ) → visit-lts.Need-goal-of-requires (visit-calls t) (visit-at t) visit.Post visit-Inv-loop visit-μ-loop
 visit-goal-of-requires t c κs = search needs
@@ -355,58 +491,60 @@ module _ (t : ℕ) (c : visit-lts.After-waiter-of (visit-calls t) (visit-at t) v
   abbrev aimed : visit-lts.After-goal-of (visit-calls t) (visit-at t) visit.Post visit-Inv-loop visit-μ-loop
   aimed = c .before .before .before
 
-  abbrev written : visit-lts.After-count-pin (visit-calls t) (visit-at t) visit.Post visit-Inv-loop visit-μ-loop
-  written = aimed .before .before .before
-
   abbrev pinned : visit-lts.After-pin-at (visit-calls t) (visit-at t) visit.Post visit-Inv-loop visit-μ-loop
-  pinned = written .before .before .before
+  pinned = aimed .before
 
-  abbrev going : visit-lts.Else1 (visit-calls t) (visit-at t) visit.Post visit-Inv-loop visit-μ-loop
-  going = pinned .before
+  abbrev tested : visit-lts.After-has-class (visit-calls t) (visit-at t) visit.Post visit-Inv-loop visit-μ-loop
+  tested = pinned .before .before
 
-  abbrev turn : visit-lts.After-is-over (visit-calls t) (visit-at t) visit.Post visit-Inv-loop visit-μ-loop
-  turn = going .before
+  abbrev loops : visit-lts.At-loop (visit-calls t) (visit-at t) visit.Post visit-Inv-loop visit-μ-loop
+  loops = turn t tested
 
-  left : turn .before .loop .next < countIn (Word t turn)
-  left = left-on t going
+  eight : countIn (wordIn (Rows t loops) (Signal t loops)) ≤ 8
+  eight = row t loops .count-eight
 
-  eight : countIn (Word t turn) ≤ 8
-  eight = row t turn .count-eight
+  below : pinned .pin-at .result < Signal t loops
+  below = omega (arith, pinned .pin-at .ensures, row t loops .below (loops .loop .next) (omega (arith, more-pins t tested, eight)))
 
-  below : pinned .pin-at .result < begin t turn .args .s
-  below = omega (arith, pinned .pin-at .ensures, row t turn .below (turn .before .loop .next) (omega (arith, left, eight)))
+  on-pin : pinned .pin-at .result ≡ getD (rowPins (Rows t loops) (Signal t loops)) (loops .loop .next) 0
+  on-pin = pinned .pin-at .ensures ∙ pin-is (Rows t loops) (Signal t loops) (loops .loop .next) (more-pins t tested)
 
-  on-pin : pinned .pin-at .result ≡ getD (rowPins (begin t turn .args .rows .now) (begin t turn .args .s)) (turn .before .loop .next) 0
-  on-pin = pinned .pin-at .ensures ∙ pin-is (begin t turn .args .rows .now) (begin t turn .args .s) (turn .before .loop .next) left
-
-  same : length (written .count-pin .last .0) ≡ length (turn .before .loop .cells)
-  same = written .count-pin .kept .0
+  -- what is known is as on arrival
+  known-is : knownIn (loops .loop .cells) ≡ knownIn (Entry t loops)
+  known-is = loops .loop .inv .0 .known ∙ begun-at t (here t loops) .known
 
   -- its driver's wanted set
-  wanted-is : preimage (opAt (c .waiter-of .result / 8)) (ofCode (c .waiter-of .result)) (aimed .goal-of .result)
-      ≡ wantedFor (opOf (rowKind (begin t turn .args .rows .now) (begin t turn .args .s))) (inverts (rowKind (begin t turn .args .rows .now) (begin t turn .args .s)))
-      (ofCode (turn .before .loop .p)) (ltb (turn .before .loop .next + 1) (countIn (Word t turn))) (begin t turn .args .wanted)
+  abbrev Wanted : ℕ
+  Wanted = preimage (opAt (c .waiter-of .result / 8)) (ofCode (c .waiter-of .result)) (aimed .goal-of .result)
+
+  wanted-is : Wanted
+      ≡ wantedFor (opOf (rowKind (Rows t loops) (Signal t loops))) (inverts (rowKind (Rows t loops) (Signal t loops))) (ofCode (loops .loop .p))
+      (ltb (loops .loop .next + 1) (countIn (wordIn (Rows t loops) (Signal t loops)))) (begin t loops .args .wanted)
   wanted-is =
-      wants (rowKind (begin t turn .args .rows .now) (begin t turn .args .s)) (Gate t turn) (begin t turn .args .wanted) (c .waiter-of .result)
-      (ofCode (turn .before .loop .p)) (ltb (turn .before .loop .next + 1) (countIn (Word t turn))) (aimed .goal-of .result) (operation t turn)
-      (inversion t turn) (c .waiter-of .ensures .1) (c .waiter-of .ensures .0)
-      (aimed .goal-of .ensures ∙ (λ i. cond (ltb (turn .before .loop .next + 1) (count-is t turn i)) (reach-is t turn i) (want-is t turn i)))
+      wants (rowKind (Rows t loops) (Signal t loops)) (Gate t loops) (begin t loops .args .wanted) (c .waiter-of .result) (ofCode (loops .loop .p))
+      (ltb (loops .loop .next + 1) (countIn (wordIn (Rows t loops) (Signal t loops)))) (aimed .goal-of .result) (operation t loops) (inversion t loops)
+      (c .waiter-of .ensures .1) (c .waiter-of .ensures .0)
+      (aimed .goal-of .ensures ∙ (λ i. cond (ltb (loops .loop .next + 1) (count-is t loops i)) (reach-is t loops i) (want-is t loops i)))
 
 visit-take-requires : (t : ℕ) → visit-lts.Need-take-requires (visit-calls t) (visit-at t) visit.Post visit-Inv-loop visit-μ-loop
 visit-take-requires t c κs =
-    let g = turn t c in
-    let s = begin t g in
-    let l = g .before .loop in
-    let known-there = searched-there (s .args .known .now) (s .args .s) (untold-searched (s .args .rows .now) (s .args .known .now) (s .args .cells .now) (s .args .s) (s .pre .1 .1 .1)) in
-    let lends : Lends (pinned t c .pin-at .result) (written t c .count-pin .last .0) (written t c .count-pin .last .1 .0) =
+    let l = loops t c in
+    let s = begin t l in
+    let held = l .loop .inv .0 in
+    let lends : Lends (Rows t l) (pinned t c .pin-at .result) (l .loop .cells) (l .loop .tally) =
     record {
-      there = omega (arith, below t c, same t c, l .inv .0 .there);
-      few = omega (arith, same t c, l .inv .0 .few);
-      tallied = written t c .count-pin .ensures .tallied;
+      there = omega (arith, below t c, held .there);
+      few = held .few;
+      small = held .small;
+      tallied = held .tallied;
+      marked = λ u h. l .loop .inv .1 u (omega (arith, below t c));
     }
+    in
+    let next-is : Byte t l / 8 - 2 ≡ getD (Entry t l) (Signal t l) 0 / 8 - 2 =
+    ap (λ b. b / 8 - 2) (byte-is t (here t l)) ∙ begun-next (gateIn (wordIn (Rows t l) (Signal t l))) (getD (Entry t l) (Signal t l) 0)
     in (
-      omega (arith, s .pre .0, below t c, left t c, l .inv .2, cell-next t (here t g)),
-      (s .pre .1 .0, (lends, omega (arith, below t c, known-there), c .waiter-of .ensures .1)),
+      omega (arith, s .pre .0, below t c, more-pins t (tested t c), l .loop .inv .2, next-is),
+      (subst (SearchReady (s .args .table .now) (Rows t l)) (sym (known-is t c)) (s .pre .1 .0), (lends, c .waiter-of .ensures .1)),
     )
 
 -- the pin was taken
@@ -414,126 +552,154 @@ module _ (t : ℕ) (c : visit-lts.After-take (visit-calls t) (visit-at t) visit.
   abbrev at-pin : visit-lts.After-waiter-of (visit-calls t) (visit-at t) visit.Post visit-Inv-loop visit-μ-loop
   at-pin = c .before
 
-  abbrev turning : visit-lts.After-is-over (visit-calls t) (visit-at t) visit.Post visit-Inv-loop visit-μ-loop
-  turning = turn t at-pin
+  abbrev looped : visit-lts.At-loop (visit-calls t) (visit-at t) visit.Post visit-Inv-loop visit-μ-loop
+  looped = loops t at-pin
 
-  going-on : ended (Checked t turning) ≡ false
-  going-on = sym (over-is t turning) ∙ going t at-pin .if1 .left
+  abbrev After : List ℕ
+  After = c .take .last .1 .1 .0
+
+  abbrev Tally : List ℕ
+  Tally = c .take .last .1 .1 .1 .0
+
+  -- the gate's cell in the definition
+  abbrev Held-cell : Cell
+  Held-cell = kept (ofCode (looped .loop .p)) (looped .loop .next + 1)
+
+  held : Held (Rows t looped) (Signal t looped) (Byte t looped) (here t looped .arrive .last .0) After Tally
+  held =
+      held-after (Rows t looped) (Signal t looped) (Byte t looped) (here t looped .arrive .last .0) (looped .loop .cells) (looped .loop .tally)
+      (pinned t at-pin .pin-at .result) (Wanted t at-pin) (at-pin .waiter-of .result) After Tally (c .take .result) (below t at-pin) (c .take .ensures)
+      (looped .loop .inv .0)
+
+  taking : Ends (Rows t looped) (knownIn (Entry t looped)) (pinned t at-pin .pin-at .result) (Wanted t at-pin) (at-pin .waiter-of .result)
+      (put (cellsIn (Rows t looped) (looped .loop .cells)) (Signal t looped) Held-cell) (put (cellsIn (Rows t looped) After) (Signal t looped) Held-cell)
+      (c .take .result)
+  taking =
+      let l = looped in
+      let x = pinned t at-pin .pin-at .result in
+      ends-put (Rows t l) (knownIn (Entry t l)) x (Wanted t at-pin) (at-pin .waiter-of .result) (cellsIn (Rows t l) (l .loop .cells))
+      (cellsIn (Rows t l) After) (c .take .result) (Signal t l) Held-cell (falling (Rows t l) (knownIn (Entry t l)) (begin t l .pre .1 .0 .gates-only))
+      (below t at-pin) (rw (cells-length (Rows t l) (l .loop .cells)) (l .loop .inv .0 .there))
+      (subst
+      (λ k.
+      Ends (Rows t l) k x (Wanted t at-pin) (at-pin .waiter-of .result) (cellsIn (Rows t l) (l .loop .cells)) (cellsIn (Rows t l) After) (c .take .result))
+      (known-is t at-pin) (c .take .ensures .is))
+
+  going-on : ended (Checked t looped) ≡ false
+  going-on = sym (over-is t (tested t at-pin)) ∙ pinned t at-pin .before .if2 .left
 
   waiting-is : waitingOf (at-pin .waiter-of .result)
-      ≡ waits (opOf (rowKind (begin t turning .args .rows .now) (begin t turning .args .s))) (ofCode (turning .before .loop .p))
-  waiting-is = at-pin .waiter-of .ensures .0 ∙ ap (λ o. waits o (ofCode (turning .before .loop .p))) (operation t turning)
+      ≡ waits (opOf (rowKind (Rows t looped) (Signal t looped))) (ofCode (looped .loop .p))
+  waiting-is = at-pin .waiter-of .ensures .0 ∙ ap (λ o. waits o (ofCode (looped .loop .p))) (operation t looped)
 
   small : c .take .result ≤ 8
   small =
-      let a = begin t turning .args in
-      takes-small (a .rows .now) (a .known .now) (pinned t at-pin .pin-at .result) _ (at-pin .waiter-of .result) (written t at-pin .count-pin .last .0)
-      (c .take .last .1 .1 .1 .1 .0) (c .take .last .1 .1 .1 .1 .1 .0) (c .take .result) (c .take .ensures)
+      ends-small (Rows t looped) (knownIn (Entry t looped)) (pinned t at-pin .pin-at .result) (Wanted t at-pin) (at-pin .waiter-of .result) _ _
+      (c .take .result) taking
 
-  -- the waiting gate's cell is as it was written
-  at-next : At (begin t turning .args .s) (turning .before .loop .next + 1) (c .take .last .1 .1 .1 .1 .0)
-  at-next =
-      let s = begin t turning in
-      let a = s .args in
-      let l = turning .before .loop in
-      let before : At (a .s) (l .next + 1) (written t at-pin .count-pin .last .0) =
-      subst (At (a .s) (l .next + 1)) (sym (written t at-pin .count-pin .ensures .cells)) (at-put (l .cells) (a .s) (ofCode (l .p)) (l .next + 1) (l .inv .0 .there))
-      in
-      let e = takes-above (a .rows .now) (a .known .now) (pinned t at-pin .pin-at .result) _ (at-pin .waiter-of .result) (written t at-pin .count-pin .last .0)
-      (c .take .last .1 .1 .1 .1 .0) (c .take .last .1 .1 .1 .1 .1 .0) (c .take .result) (c .take .ensures)
-      (falling (a .rows .now) (a .known .now) (s .pre .1 .0 .gates-only)) (a .s) (below t at-pin)
-      in
-      record { seen = omega (arith, before .seen); next-is = ap nextOf e ∙ before .next-is }
-
-  same-after : length (c .take .last .1 .1 .1 .1 .0) ≡ length (turning .before .loop .cells)
-  same-after = c .take .kept .1 .1 .1 .1 .0 ∙ same t at-pin
-
-  stopped-by : c .take .result ≡ 8 → (entry : List ℕ)
-      → Arrived (begin t turning .args .rows .now) (begin t turning .args .known .now) (begin t turning .args .s) (begin t turning .args .wanted)
-      (begin t turning .args .waiter) entry (here t turning .arrive .result % 8) (here t turning .arrive .result / 8 - 16) (here t turning .arrive .last .0)
-      → Takes (begin t turning .args .rows .now) (begin t turning .args .known .now) (begin t turning .args .s) (begin t turning .args .wanted)
-      (begin t turning .args .waiter) entry (c .take .last .1 .1 .1 .1 .0) (c .take .last .1 .1 .1 .1 .1 .0) 8
-  stopped-by =
-      let a = begin t turning .args in
-      let l = turning .before .loop in
-      rest-stopped (a .rows .now) (a .known .now) (a .s) (a .wanted) (a .waiter) _ _ (here t turning .arrive .last .0) (l .p) (l .next) (l .cells) (l .inv .4)
-      going-on (left t at-pin) (pinned t at-pin .pin-at .result) _ (at-pin .waiter-of .result) (written t at-pin .count-pin .last .0)
-      (c .take .last .1 .1 .1 .1 .0) (c .take .last .1 .1 .1 .1 .1 .0) (c .take .result) (on-pin t at-pin) (below t at-pin) (wanted-is t at-pin) waiting-is
-      (written t at-pin .count-pin .ensures .cells) (c .take .ensures)
+  stopped-by : c .take .result ≡ 8
+      → Ends (Rows t looped) (knownIn (Entry t looped)) (Signal t looped) (begin t looped .args .wanted) (begin t looped .args .waiter)
+      (cellsIn (Rows t looped) (Entry t looped)) (put (cellsIn (Rows t looped) After) (Signal t looped) Held-cell) 8
+  stopped-by stop =
+      let l = looped in
+      let a = begin t l .args in
+      rest-stopped (Rows t l) (knownIn (Entry t l)) (Signal t l) (a .wanted) (a .waiter) _ _ (cellsIn (Rows t l) (here t l .arrive .last .0)) (l .loop .p)
+      (l .loop .next) _ (rest-is t l) going-on (more-pins t (tested t at-pin)) (pinned t at-pin .pin-at .result) (Wanted t at-pin) (at-pin .waiter-of .result)
+      _ _ (c .take .result) (on-pin t at-pin) (below t at-pin) (wanted-is t at-pin) waiting-is
+      (sym (put-put (cellsIn (Rows t l) (l .loop .cells)) (Signal t l) (ofCode (l .loop .p)) (ofCode (l .loop .p)) (l .loop .next) (l .loop .next + 1)))
+      taking stop (cellsIn (Rows t l) (Entry t l)) (begun-at t (here t l) .starts)
 
   next-by : c .take .result < 8
-      → Rest (begin t turning .args .rows .now) (begin t turning .args .known .now) (begin t turning .args .s) (begin t turning .args .wanted)
-      (begin t turning .args .waiter) (here t turning .arrive .result % 8) (here t turning .arrive .result / 8 - 16) (here t turning .arrive .last .0)
-      (c .take .result) (turning .before .loop .next + 1)
-      (put (c .take .last .1 .1 .1 .1 .0) (begin t turning .args .s) (kept (ofCode (c .take .result)) (turning .before .loop .next + 1)))
+      → Rest (Rows t looped) (knownIn (Entry t looped)) (Signal t looped) (begin t looped .args .wanted) (begin t looped .args .waiter) (Byte t looped % 8)
+      (Byte t looped / 8 - 2) (cellsIn (Rows t looped) (here t looped .arrive .last .0)) (c .take .result) (looped .loop .next + 1)
+      (put (put (cellsIn (Rows t looped) After) (Signal t looped) Held-cell) (Signal t looped) (kept (ofCode (c .take .result)) (looped .loop .next + 1)))
   next-by =
-      let a = begin t turning .args in
-      let l = turning .before .loop in
-      rest-next (a .rows .now) (a .known .now) (a .s) (a .wanted) (a .waiter) _ _ (here t turning .arrive .last .0) (l .p) (l .next) (l .cells) (l .inv .4)
-      going-on (left t at-pin) (pinned t at-pin .pin-at .result) _ (at-pin .waiter-of .result) (written t at-pin .count-pin .last .0)
-      (c .take .last .1 .1 .1 .1 .0) (c .take .last .1 .1 .1 .1 .1 .0) (c .take .result) (on-pin t at-pin) (below t at-pin) (wanted-is t at-pin) waiting-is
-      (written t at-pin .count-pin .ensures .cells) (c .take .ensures)
+      let l = looped in
+      let a = begin t l .args in
+      rest-next (Rows t l) (knownIn (Entry t l)) (Signal t l) (a .wanted) (a .waiter) _ _ (cellsIn (Rows t l) (here t l .arrive .last .0)) (l .loop .p)
+      (l .loop .next) _ (rest-is t l) going-on (more-pins t (tested t at-pin)) (pinned t at-pin .pin-at .result) (Wanted t at-pin) (at-pin .waiter-of .result)
+      _ _ (c .take .result) (on-pin t at-pin) (below t at-pin) (wanted-is t at-pin) waiting-is
+      (sym (put-put (cellsIn (Rows t l) (l .loop .cells)) (Signal t l) (ofCode (l .loop .p)) (ofCode (l .loop .p)) (l .loop .next) (l .loop .next + 1)))
+      taking
 
-visit-same-length-2 : (t : ℕ) → visit-lts.Need-same-length-2 (visit-calls t) (visit-at t) visit.Post visit-Inv-loop visit-μ-loop
-visit-same-length-2 t c = search needs
+visit-open-mark-requires : (t : ℕ) → visit-lts.Need-open-mark-requires (visit-calls t) (visit-at t) visit.Post visit-Inv-loop visit-μ-loop
+visit-open-mark-requires t c κs =
+    let w = c .before .before .before .before .before .before in
+    (loops t w .loop .inv .4, omega (arith, more-pins t (tested t w), eight t w))
 
-visit-returns-2 : (t : ℕ) → visit-lts.Need-returns-2 (visit-calls t) (visit-at t) visit.Post visit-Inv-loop visit-μ-loop
-visit-returns-2 t c =
-    let k = c .before .before .before in
-    let g = turn t (k .before) in
-    let a = begin t g .args in
-    stopped-by t k (c .if2 .taken) (a .cells .now) (begun t g)
+visit-sub-leave-3 : (t : ℕ) → visit-lts.Need-sub-leave-3 (visit-calls t) (visit-at t) visit.Post visit-Inv-loop visit-μ-loop
+visit-sub-leave-3 t c = omega (arith, loops t (c .before .before .before .before .before .before .before) .loop .inv .2)
 
-visit-keep-requires : (t : ℕ) → visit-lts.Need-keep-requires (visit-calls t) (visit-at t) visit.Post visit-Inv-loop visit-μ-loop
-visit-keep-requires t c κs =
-    let k = c .before .before .before .before in
-    let w = k .before in (
-      omega (arith, same-after t k, turn t w .before .loop .inv .0 .there),
-      omega (arith, left t w, eight t w),
-    )
+visit-leave-requires-3 : (t : ℕ) → visit-lts.Need-leave-requires-3 (visit-calls t) (visit-at t) visit.Post visit-Inv-loop visit-μ-loop
+visit-leave-requires-3 t c κs =
+    let k = c .before .before .before .before .before .before in
+    let l = looped t k in
+    (held t k .there, held-pins (Rows t l) (Signal t l) (Byte t l) (here t l .arrive .last .0) (After t k) (Tally t k) (held t k))
+
+visit-same-length-3 : (t : ℕ) → visit-lts.Need-same-length-3 (visit-calls t) (visit-at t) visit.Post visit-Inv-loop visit-μ-loop
+visit-same-length-3 t c =
+    let v = c .before .before in
+    let k = v .before .before .before .before .before .before .before in
+    v .leave3 .kept .0 ∙ k .take .kept .1 .1 .0 ∙ long t (looped t k)
+
+visit-returns-3 : (t : ℕ) → visit-lts.Need-returns-3 (visit-calls t) (visit-at t) visit.Post visit-Inv-loop visit-μ-loop
+visit-returns-3 t c =
+    let v = c .before .before in
+    let m = v .before in
+    let e = m .before .before .before in
+    let k = e .before .before .before in
+    let l = looped t k in
+    let a = begin t l .args in
+    let w = k .before in
+    let few : l .loop .next + 1 ≤ 13 = omega (arith, more-pins t (tested t w), eight t w) in
+    leaves (Rows t l) (Signal t l) (a .wanted) (a .waiter) (Byte t l) (Entry t l) (here t l .arrive .last .0) (here t l .arrive .last .1 .0) (After t k)
+    (Tally t k) (begun-at t (here t l)) (held t k) (l .loop .p) (l .loop .next + 1) (m .open-mark .result)
+    (ap (cellIn (invertsIn (wordIn (Rows t l) (Signal t l)))) (m .open-mark .ensures)
+    ∙ open-cell (invertsIn (wordIn (Rows t l) (Signal t l))) (l .loop .p) (l .loop .next + 1) few)
+    (omega (arith, m .open-mark .ensures)) (omega arith) (omega (arith, l .loop .inv .2)) (v .leave3 .last .0) (v .leave3 .last .1 .0) (v .leave3 .ensures .0)
+    (v .leave3 .ensures .1) 8 (stopped-by t k (e .if3 .taken)) (λ h. absurd (omega arith))
 
 visit-loop-less : (t : ℕ) → visit-lts.Need-loop-less (visit-calls t) (visit-at t) visit.Post visit-Inv-loop visit-μ-loop
 visit-loop-less t c =
-    let k = c .before .before .before .before .before .before .before in
-    omega (arith, left t (k .before), count-is t (turn t (k .before)))
+    let w = c .before .before .before .before in
+    omega (arith, more-pins t (tested t w), count-is t (loops t w))
 
 visit-loop-again : (t : ℕ) → visit-lts.Need-loop-again (visit-calls t) (visit-at t) visit.Post visit-Inv-loop visit-μ-loop
 visit-loop-again t c =
-    let e = c .before .before in
-    let d = e .before .before in
-    let k = d .before .before .before in
-    let g = turn t (k .before) in
-    let a = begin t g .args in
-    let l = g .before .loop in
-    let after = k .take .last .1 .1 .1 .1 .0 in
-    let there : a .s < length after = omega (arith, same-after t k, l .inv .0 .there) in
-    let written : e .keep .last .0 ≡ put after (a .s) (kept (ofCode (k .take .result)) (l .next + 1)) = e .keep .ensures in
-    let long : length (e .keep .last .0) ≡ length (l .cells) = e .keep .kept .0 ∙ same-after t k in (
-      record {
-        there = omega (arith, l .inv .0 .there);
-        few = omega (arith, l .inv .0 .few);
-        tallied = k .take .ensures .tallied ∙ tally-again after (a .s) (ofCode (k .take .result)) (l .next + 1) there (at-next t k) ∙ ap tallyOf (sym written);
-      },
-      long ∙ l .inv .1,
-      omega (arith, l .inv .2),
-      subst (At (a .s) (l .next + 1)) (sym written) (at-put after (a .s) (ofCode (k .take .result)) (l .next + 1) there),
+    let k = c .before .before .before in
+    let w = k .before in
+    let l = looped t k in
+    let a = begin t l .args in
+    let less : k .take .result < 8 = omega (arith, small t k, c .if3 .left) in (
+      held t k,
+      marks-after (Rows t l) (Signal t l) (Byte t l) (here t l .arrive .last .0) (l .loop .cells) (l .loop .tally) (pinned t w .pin-at .result) (Wanted t w)
+          (w .waiter-of .result) (After t k) (Tally t k) (k .take .result) (below t w) (k .take .ensures) less (l .loop .inv .1),
+      omega (arith, l .loop .inv .2),
+      omega (arith, more-pins t (tested t w), eight t w),
+      less,
       subst
-          (Rest (a .rows .now) (a .known .now) (a .s) (a .wanted) (a .waiter) (here t g .arrive .result % 8) (here t g .arrive .result / 8 - 16)
-          (here t g .arrive .last .0) (k .take .result) (l .next + 1))
-          (sym written) (next-by t k (omega (arith, small t k, d .if2 .left))),
+          (λ known.
+          Rest (Rows t l) known (Signal t l) (a .wanted) (a .waiter) (Byte t l % 8) (Byte t l / 8 - 2) (cellsIn (Rows t l) (here t l .arrive .last .0))
+          (k .take .result) (l .loop .next + 1) (put (cellsIn (Rows t l) (After t k)) (Signal t l) (kept (ofCode (k .take .result)) (l .loop .next + 1))))
+          (sym (begun-at t (here t l) .known))
+          (subst
+          (Rest (Rows t l) (knownIn (Entry t l)) (Signal t l) (a .wanted) (a .waiter) (Byte t l % 8) (Byte t l / 8 - 2)
+          (cellsIn (Rows t l) (here t l .arrive .last .0)) (k .take .result) (l .loop .next + 1))
+          (put-put (cellsIn (Rows t l) (After t k)) (Signal t l) (ofCode (l .loop .p)) (ofCode (k .take .result)) (l .loop .next + 1) (l .loop .next + 1))
+          (next-by t k less)),
     )
 
 pub +take+visit-spec : {M : Type 1} → statement M
 +take+visit-spec = close μ-take μ-visit (λ t. take-lts.spec (take-calls t)
     (take-at t)
     take.Post
-    (take-told-at-requires t)
+    (take-slice-read-byte t)
+    (take-is-told-requires t)
     (take-joined-by-requires t)
-    (take-same-length t)
     (take-returns t)
     (take-preimage-of-requires t)
     (take-visit-requires t)
-    (take-same-length-2 t)
+    (take-same-length t)
     (take-returns-2 t))
     λ t. visit-lts.spec (
       word-of-reads.Asked,
@@ -550,22 +716,34 @@ pub +take+visit-spec : {M : Type 1} → statement M
       stop-bits-reads.Learnt,
       arrive-reads.Asked,
       arrive-reads.Learnt,
-      is-over-reads.Asked,
-      is-over-reads.Learnt,
-      check-gate-reads.Asked,
-      check-gate-reads.Learnt,
+      class-of-reads.Asked,
+      class-of-reads.Learnt,
+      known-mark-reads.Asked,
+      known-mark-reads.Learnt,
+      leave-reads.Asked,
+      leave-reads.Learnt,
+      check-known-reads.Asked,
+      check-known-reads.Learnt,
+      has-class-reads.Asked,
+      has-class-reads.Learnt,
+      possible-set-reads.Asked,
+      possible-set-reads.Learnt,
+      only-class-reads.Asked,
+      only-class-reads.Learnt,
+      mark-of-reads.Asked,
+      mark-of-reads.Learnt,
+      check-set-reads.Asked,
+      check-set-reads.Learnt,
       pin-at-reads.Asked,
       pin-at-reads.Learnt,
-      count-pin-reads.Asked,
-      count-pin-reads.Learnt,
       goal-of-reads.Asked,
       goal-of-reads.Learnt,
       waiter-of-reads.Asked,
       waiter-of-reads.Learnt,
       take-below t,
       take.Post,
-      keep-reads.Asked,
-      keep-reads.Learnt,
+      open-mark-reads.Asked,
+      open-mark-reads.Learnt,
     )
     (visit-at t)
     visit.Post
@@ -580,18 +758,31 @@ pub +take+visit-spec : {M : Type 1} → statement M
     (visit-arrive-requires t)
     (visit-sub-next t)
     (visit-loop-holds t)
-    (visit-is-over-requires t)
-    (visit-check-gate-requires t)
+    (visit-class-of-requires t)
+    (visit-known-mark-requires t)
+    (visit-sub-leave t)
+    (visit-leave-requires t)
+    (visit-check-known-requires t)
     (visit-same-length t)
     (visit-returns t)
+    (visit-has-class-requires t)
+    (visit-possible-set-requires t)
+    (visit-only-class-requires t)
+    (visit-mark-of-requires t)
+    (visit-sub-leave-2 t)
+    (visit-leave-requires-2 t)
+    (visit-check-set-requires t)
+    (visit-same-length-2 t)
+    (visit-returns-2 t)
     (visit-pin-at-requires t)
     (visit-add-next t)
-    (visit-count-pin-requires t)
     (visit-goal-of-requires t)
     (visit-waiter-of-requires t)
     (visit-take-requires t)
-    (visit-same-length-2 t)
-    (visit-returns-2 t)
-    (visit-keep-requires t)
+    (visit-open-mark-requires t)
+    (visit-sub-leave-3 t)
+    (visit-leave-requires-3 t)
+    (visit-same-length-3 t)
+    (visit-returns-3 t)
     (visit-loop-less t)
     (visit-loop-again t)

@@ -1,68 +1,62 @@
 -- `visit::find` meets its contract. Assumes nothing.
 use Prim.Native.Nat.{suc, _+_}
 use native.Mathlib.Omega.{arith}
-use native.Mathlib.Numerals.{add-one}
-use mathlib.Core.Path.{_≡_, sym, _∙_, ap}
-use mathlib.Core.List.{[], _∷_}
-use lib.ListN.{length, take}
+use mathlib.Core.Path.{_≡_, refl, sym, _∙_, ap, subst}
+use mathlib.Core.List.{[], _∷_, _++_}
+use lib.ListN.{getD, drop}
 use lib.Seq.{length-take-le}
-use Rattle.search.specs.Search.{fresh}
-use Rattle.visit.specs.Visits.{Lends, tallyOf, toldAt}
-use Rattle.visit.proofs.Searches.{fresh-tally, fresh-untold, search-given, search-visited}
+use Rattle.visit.specs.Lent.{SearchReady}
+use Rattle.visit.specs.Cells.{toldIn}
+use Rattle.visit.specs.Visits.{Lends}
+use Rattle.visit.proofs.Sources.{falling}
+use Rattle.visit.proofs.Searches.{search-given, fresh-known, fresh-tally, fresh-marks, search-visited, known-left}
 use borrow.Author.Needs.{needs}
 use Rattle.visit.proofs.find.Statement.{statement}
 use Rattle.visit.proofs.find.Tie as tie
 
-shared-slice-read-class : tie.Need-shared-slice-read-class
-shared-slice-read-class c = search needs
+slice-read-class : tie.Need-slice-read-class
+slice-read-class c = search needs
 
 judge-requires : tie.Need-judge-requires
 judge-requires c κs = search needs
 
 returns : tie.Need-returns
 returns c =
-    let a = c .before .before .before .before .before .before .args in
-    search-given (a .rows .now) (a .known .now) (a .wanted) (a .s) (c .before .if1 .taken) (c .judge .result) (c .judge .ensures) (a .cells .now)
-
-add-reached : tie.Need-add-reached
-add-reached c = search needs
-
-slice-relend-prefix-reached : tie.Need-slice-relend-prefix-reached
-slice-relend-prefix-reached c = search needs
-
--- the cells that the search can reach
-reached-length : (c : tie.Else1) → let a = c .before .before .before .before .before .args in length (take (a .s + 1) (a .cells .now)) ≡ a .s + 1
-reached-length c =
-    let s = c .before .before .before .before .before in
-    length-take-le (s .args .s + 1) (s .args .cells .now) (omega (arith, s .pre .1))
-
-slice-aggregate-reached : tie.Need-slice-aggregate-reached
-slice-aggregate-reached c = sym (reached-length (c .before))
-
-clear-requires : tie.Need-clear-requires
-clear-requires c κs = search needs
-
--- at first they are new
-afresh : (c : tie.After-clear) → c .clear .last .0 ≡ fresh (suc (c .before .before .before .before .before .before .before .before .args .s))
-afresh c =
-    let e = c .before .before .before in
-    c .clear .ensures ∙ ap fresh (reached-length e ∙ add-one (e .before .before .before .before .before .args .s))
+    let a = c .before .before .before .before .before .args in
+    (search-given (a .rows .now) (a .known .now) (a .wanted) (a .s) (c .before .if1 .taken) (c .judge .result) (c .judge .ensures), refl)
 
 visit-requires : tie.Need-visit-requires
 visit-requires c κs =
-    let l = c .before .before .before in
-    let e = l .before .before .before in
-    let s = e .before .before .before .before .before in
+    let e = c .before .before in
+    let s = e .before .before .before .before in
     let a = s .args in
-    let new = afresh l in
-    let lends : Lends (a .s) (l .clear .last .0) (0 ∷ 0 ∷ []) =
+    let afresh = s .pre .0 .afresh in
+    let eight : getD (a .known .now) (a .s) 0 ≡ 8 = omega (arith, afresh (a .s), e .if1 .left) in
+    let lends : Lends (a .rows .now) (a .s) (a .known .now) (0 ∷ 0 ∷ []) =
     record {
-      there = omega (arith, l .clear .kept .0, reached-length e);
-      few = omega (arith, l .clear .kept .0, reached-length e, s .pre .0 .few-signals, s .pre .1);
-      tallied = fresh-tally (suc (a .s)) ∙ ap tallyOf (sym new);
+      there = s .pre .1;
+      few = s .pre .0 .few-signals;
+      small = λ t. omega (arith, afresh t);
+      tallied = fresh-tally (a .rows .now) (a .known .now) afresh;
+      marked = fresh-marks (a .rows .now) (a .known .now) afresh (suc (a .s));
     }
     in
-    (s .pre .0, (lends, ap (λ c. toldAt (a .rows .now) (a .known .now) c (a .s)) new ∙ fresh-untold (a .rows .now) (a .known .now) (a .s) (suc (a .s)) (e .if1 .left), omega arith))
+    (subst (SearchReady (a .table .now) (a .rows .now)) (sym (fresh-known (a .rows .now) (a .known .now) afresh)) (s .pre .0), (lends, ap toldIn eight, omega arith))
+
+add-reset : tie.Need-add-reset
+add-reset c = search needs
+
+slice-relend-prefix-reset : tie.Need-slice-relend-prefix-reset
+slice-relend-prefix-reset c = search needs
+
+slice-aggregate-reset : tie.Need-slice-aggregate-reset
+slice-aggregate-reset c =
+    let v = c .before .before .before in
+    let s = v .before .before .before .before .before .before .before in
+    sym (length-take-le (s .args .s + 1) (v .visit .last .1 .1 .0) (omega (arith, v .visit .kept .1 .1 .0, s .pre .1)))
+
+reset-requires : tie.Need-reset-requires
+reset-requires c κs = search needs
 
 verdict-of-requires : tie.Need-verdict-of-requires
 verdict-of-requires c κs = search needs
@@ -84,27 +78,32 @@ same-length c = search needs
 
 returns-2 : tie.Need-returns-2
 returns-2 c =
-    let r = c .before .before in
-    let v = r .before .before .before in
-    let l = v .before .before .before .before in
-    let e = l .before .before .before in
-    let a = e .before .before .before .before .before .args in
-    search-visited (a .rows .now) (a .known .now) (a .wanted) (a .s) (e .if1 .left) (l .clear .last .0) (afresh l) (v .visit .result)
-    (v .visit .last .1 .1 .1 .1 .0) (v .visit .last .1 .1 .1 .1 .1 .0) (v .visit .ensures) _ (r .verdict-of .ensures) (c .before .wide .ensures)
-    (c .wide2 .ensures) (a .cells .now)
+    let q = c .before .before .before .before .before in
+    let v = q .before .before .before .before in
+    let e = v .before .before .before in
+    let s = e .before .before .before .before in
+    let a = s .args in
+    let exit = v .visit .last .1 .1 .0 in
+    let tally = v .visit .last .1 .1 .1 .0 in
+    let falls = falling (a .rows .now) (a .known .now) (s .pre .0 .gates-only) in (
+      search-visited (a .rows .now) (a .known .now) (s .pre .0 .afresh) (a .wanted) (a .s) falls (s .pre .1) (e .if1 .left) (v .visit .result) exit tally
+          (v .visit .ensures) _ (c .before .before .verdict-of .ensures) (c .before .wide .ensures) (c .wide2 .ensures),
+      ap (λ l. l ++ drop (a .s + 1) exit) (q .reset .ensures)
+          ∙ known-left (a .rows .now) (a .known .now) (s .pre .0 .afresh) (a .wanted) (a .s) falls (s .pre .1) (e .if1 .left) (v .visit .result) exit tally (v .visit .ensures),
+    )
 
 pub find-spec : {M : Type 1} → statement M
 find-spec =
     tie.close
     (tie.spec
-    shared-slice-read-class
+    slice-read-class
     judge-requires
     returns
-    add-reached
-    slice-relend-prefix-reached
-    slice-aggregate-reached
-    clear-requires
     visit-requires
+    add-reset
+    slice-relend-prefix-reset
+    slice-aggregate-reset
+    reset-requires
     verdict-of-requires
     array-read-wide
     wide-requires
