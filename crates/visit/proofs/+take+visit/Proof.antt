@@ -701,50 +701,7 @@ pub +take+visit-spec : {M : Type 1} → statement M
     (take-visit-requires t)
     (take-same-length t)
     (take-returns-2 t))
-    λ t. visit-lts.spec (
-      word-of-reads.Asked,
-      word-of-reads.Learnt,
-      gate-in-reads.Asked,
-      gate-in-reads.Learnt,
-      count-in-reads.Asked,
-      count-in-reads.Learnt,
-      swapped-reads.Asked,
-      swapped-reads.Learnt,
-      reach-of-reads.Asked,
-      reach-of-reads.Learnt,
-      stop-bits-reads.Asked,
-      stop-bits-reads.Learnt,
-      arrive-reads.Asked,
-      arrive-reads.Learnt,
-      class-of-reads.Asked,
-      class-of-reads.Learnt,
-      known-mark-reads.Asked,
-      known-mark-reads.Learnt,
-      leave-reads.Asked,
-      leave-reads.Learnt,
-      check-known-reads.Asked,
-      check-known-reads.Learnt,
-      has-class-reads.Asked,
-      has-class-reads.Learnt,
-      possible-set-reads.Asked,
-      possible-set-reads.Learnt,
-      only-class-reads.Asked,
-      only-class-reads.Learnt,
-      mark-of-reads.Asked,
-      mark-of-reads.Learnt,
-      check-set-reads.Asked,
-      check-set-reads.Learnt,
-      pin-at-reads.Asked,
-      pin-at-reads.Learnt,
-      goal-of-reads.Asked,
-      goal-of-reads.Learnt,
-      waiter-of-reads.Asked,
-      waiter-of-reads.Learnt,
-      take-below t,
-      take.Post,
-      open-mark-reads.Asked,
-      open-mark-reads.Learnt,
-    )
+    λ t. visit-lts.spec (visit-calls t)
     (visit-at t)
     visit.Post
     visit-Inv-loop
