@@ -5,4 +5,3 @@ pub mod Listed
 pub mod Unions
 pub mod Places
 pub mod Gates
-pub mod Lookups

@@ -22,7 +22,7 @@ pub extern "C" fn lane_join(operation: u8, a: u8, b: u8) -> u8
     ensures { λ r. ⌜ r ≡ code (join (opAt operation) (ofCode a) (ofCode b)) ⌝ }
 {
     let table = tables::search();
-    kung::joined(&table, operation, a, b)
+    lookup::joined(&table, operation, a, b)
 }
 
 #[no_mangle]

@@ -61,7 +61,7 @@ pub fn pass(
         let s = inputs + gate;
         let set = pin_set(rows, s, &*hot);
         // the gates after this one wait for the set alone, not for the code
-        let only = kung::gate_set(table, (rows::word_of(rows, s) % 4) as u8, set);
+        let only = lookup::gate_set(table, (rows::word_of(rows, s) % 4) as u8, set);
         hot[s] = only;
         buffer[s] = u8::trailing_zeros(only) as u8;
         touched += is_touched(set);

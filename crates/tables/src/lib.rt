@@ -1,4 +1,4 @@
-// The constant tables. A function that names a constant array builds it anew, so each is handed out once and lent to the functions of `kung`.
+// The constant tables. A function that names a constant array builds it anew, so each is handed out once and lent to the functions of `lookup`.
 ghost use mathlib.Core.Path.{_≡_};
 ghost use Rattle.kung.specs.Lookup.{searchTable};
 ghost use Rattle.kung.specs.Gates.{gateTable};

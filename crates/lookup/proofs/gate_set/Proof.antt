@@ -1,11 +1,11 @@
--- `kung::gate_set` meets its contract. Assumes nothing.
+-- `lookup::gate_set` meets its contract. Assumes nothing.
 use mathlib.Core.Path.{_∙_}
 use lib.ListN.{getD}
 use Prim.Native.Nat.{_+_, _*_}
-use Rattle.kung.proofs.Gates.{gate-at}
+use Rattle.lookup.proofs.Gates.{gate-at}
 use borrow.Author.Needs.{needs}
-use Rattle.kung.proofs.gate_set.Statement.{statement}
-use Rattle.kung.proofs.gate_set.Tie as tie
+use Rattle.lookup.proofs.gate_set.Statement.{statement}
+use Rattle.lookup.proofs.gate_set.Tie as tie
 
 wide-requires : tie.Need-wide-requires
 wide-requires c κs = search needs

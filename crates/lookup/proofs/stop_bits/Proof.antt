@@ -1,12 +1,12 @@
--- `kung::stop_bits` meets its contract. Assumes nothing.
+-- `lookup::stop_bits` meets its contract. Assumes nothing.
 use mathlib.Core.Path.{_∙_}
 use Prim.Native.Nat.{_+_, _-_, _*_}
 use lib.Bits.{bitOr}
 use lib.ListN.{getD}
-use Rattle.kung.proofs.Lookups.{stop-at}
+use Rattle.lookup.proofs.Lookups.{stop-at}
 use borrow.Author.Needs.{needs}
-use Rattle.kung.proofs.stop_bits.Statement.{statement}
-use Rattle.kung.proofs.stop_bits.Tie as tie
+use Rattle.lookup.proofs.stop_bits.Statement.{statement}
+use Rattle.lookup.proofs.stop_bits.Tie as tie
 
 sub-result : tie.Need-sub-result
 sub-result c = search needs

@@ -1,10 +1,10 @@
--- `kung::preimage_of` meets its contract: it has a block. Assumes nothing.
+-- `lookup::preimage_of` meets its contract: it has a block. Assumes nothing.
 use mathlib.Core.Path.{_∙_, ap}
 use Rattle.kung.specs.Tables.{blockRule}
-use Rattle.kung.proofs.Lookups.{preimage-block}
+use Rattle.lookup.proofs.Lookups.{preimage-block}
 use borrow.Author.Needs.{needs}
-use Rattle.kung.proofs.preimage_of.Statement.{statement}
-use Rattle.kung.proofs.preimage_of.Tie as tie
+use Rattle.lookup.proofs.preimage_of.Statement.{statement}
+use Rattle.lookup.proofs.preimage_of.Tie as tie
 
 wide-requires : tie.Need-wide-requires
 wide-requires c κs = search needs

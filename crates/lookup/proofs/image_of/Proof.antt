@@ -1,10 +1,10 @@
--- `kung::image_of` meets its contract: the table has the image at its place. Assumes nothing.
+-- `lookup::image_of` meets its contract: the table has the image at its place. Assumes nothing.
 use mathlib.Core.Path.{_∙_, ap₂}
 use lib.ListN.{getD}
 use Rattle.kung.proofs.Places.{image-at}
 use borrow.Author.Needs.{needs}
-use Rattle.kung.proofs.image_of.Statement.{statement}
-use Rattle.kung.proofs.image_of.Tie as tie
+use Rattle.lookup.proofs.image_of.Statement.{statement}
+use Rattle.lookup.proofs.image_of.Tie as tie
 
 place-requires : tie.Need-place-requires
 place-requires c κs = search needs

@@ -1,11 +1,11 @@
--- `kung::joined_by` meets its contract. Assumes nothing.
+-- `lookup::joined_by` meets its contract. Assumes nothing.
 use mathlib.Core.Path.{_∙_}
 use Prim.Native.Nat.{_+_, _*_}
 use lib.ListN.{getD}
-use Rattle.kung.proofs.Lookups.{join-at}
+use Rattle.lookup.proofs.Lookups.{join-at}
 use borrow.Author.Needs.{needs}
-use Rattle.kung.proofs.joined_by.Statement.{statement}
-use Rattle.kung.proofs.joined_by.Tie as tie
+use Rattle.lookup.proofs.joined_by.Statement.{statement}
+use Rattle.lookup.proofs.joined_by.Tie as tie
 
 wide-requires : tie.Need-wide-requires
 wide-requires c κs = search needs

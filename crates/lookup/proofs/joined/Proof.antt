@@ -1,14 +1,14 @@
--- `kung::joined` meets its contract: the image of one class has one class. Assumes nothing.
+-- `lookup::joined` meets its contract: the image of one class has one class. Assumes nothing.
 use mathlib.Core.Path.{_∙_, ap}
 use native.Mathlib.Omega.{arith}
 use lib.Count.{trailingZeros, trailing-le}
 use Rattle.kung.specs.Class.{ofCode}
 use Rattle.kung.specs.Operation.{opAt}
 use Rattle.kung.specs.Sets.{image}
 use Rattle.kung.proofs.SetLaws.{lowest-image}
 use borrow.Author.Needs.{needs}
-use Rattle.kung.proofs.joined.Statement.{statement}
-use Rattle.kung.proofs.joined.Tie as tie
+use Rattle.lookup.proofs.joined.Statement.{statement}
+use Rattle.lookup.proofs.joined.Tie as tie
 
 with-class-requires : tie.Need-with-class-requires
 with-class-requires c κs = search needs

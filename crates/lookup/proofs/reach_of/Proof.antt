@@ -1,11 +1,11 @@
--- `kung::reach_of` meets its contract: it has a block. Assumes nothing.
+-- `lookup::reach_of` meets its contract: it has a block. Assumes nothing.
 use mathlib.Core.Path.{_∙_}
 use Prim.Native.Nat.{_+_}
 use Rattle.kung.specs.Tables.{blockRule}
-use Rattle.kung.proofs.Lookups.{reach-block}
+use Rattle.lookup.proofs.Lookups.{reach-block}
 use borrow.Author.Needs.{needs}
-use Rattle.kung.proofs.reach_of.Statement.{statement}
-use Rattle.kung.proofs.reach_of.Tie as tie
+use Rattle.lookup.proofs.reach_of.Statement.{statement}
+use Rattle.lookup.proofs.reach_of.Tie as tie
 
 wide-requires : tie.Need-wide-requires
 wide-requires c κs = search needs

@@ -1,11 +1,11 @@
--- `kung::in_block` meets its contract: a set is the union of its halves. Assumes nothing.
+-- `lookup::in_block` meets its contract: a set is the union of its halves. Assumes nothing.
 use mathlib.Core.Path.{_∙_}
 use lib.Bits.{bitOr}
 use lib.ListN.{getD}
-use Rattle.kung.proofs.Lookups.{block-at}
+use Rattle.lookup.proofs.Lookups.{block-at}
 use borrow.Author.Needs.{needs}
-use Rattle.kung.proofs.in_block.Statement.{statement}
-use Rattle.kung.proofs.in_block.Tie as tie
+use Rattle.lookup.proofs.in_block.Statement.{statement}
+use Rattle.lookup.proofs.in_block.Tie as tie
 
 entry-in-requires : tie.Need-entry-in-requires
 entry-in-requires c κs = search needs

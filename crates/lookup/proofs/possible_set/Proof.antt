@@ -1,13 +1,13 @@
--- `kung::possible_set` meets its contract. Assumes nothing.
+-- `lookup::possible_set` meets its contract. Assumes nothing.
 use mathlib.Core.Path.{_∙_, ap, sym}
 use Rattle.kung.specs.Class.{ofCode}
 use Rattle.kung.specs.Operation.{opAt}
 use Rattle.kung.specs.Sets.{possible}
 use Rattle.kung.specs.Members.{swapIf}
 use Rattle.kung.proofs.SetLaws.{possible-left, possible-done}
 use borrow.Author.Needs.{needs}
-use Rattle.kung.proofs.possible_set.Statement.{statement}
-use Rattle.kung.proofs.possible_set.Tie as tie
+use Rattle.lookup.proofs.possible_set.Statement.{statement}
+use Rattle.lookup.proofs.possible_set.Tie as tie
 
 image-of-requires : tie.Need-image-of-requires
 image-of-requires c κs = search needs

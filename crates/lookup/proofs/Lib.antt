@@ -1,0 +1,2 @@
+mod Gates
+mod Lookups
