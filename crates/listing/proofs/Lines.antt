@@ -13,7 +13,8 @@ use Rattle.visit.specs.Found.{foundOf}
 use Rattle.core.specs.Outputs.{searchFrom}
 use Rattle.core.specs.Codes.{foundByte}
 use Rattle.core.proofs.Outputs.{byte-code}
-use Rattle.listing.specs.Lent.{keptAt, Numbers, Lined}
+use Rattle.lines.specs.Lent.{keptAt}
+use Rattle.listing.specs.Lent.{Numbers, Lined}
 
 -- four numbers from a place on
 module _ (l : List ℕ) (at a b c d : ℕ) where

@@ -12,11 +12,12 @@ use lib.ListN.{length}
 use Rattle.changes.specs.Refusals.{listChecked}
 use Rattle.report.specs.Appended.{Appended}
 use Rattle.report.proofs.Appending.{nothing, _then_}
+use Rattle.lines.specs.Texts.{texts, firstLine}
+use Rattle.lines.proofs.Laws.{texts-cons}
 use Rattle.listing.specs.declared.Progress.{Progress}
 use Rattle.listing.specs.declared.Progress.the-variants.{Start, Change}
-use Rattle.listing.specs.Listing.{texts, changeLines, firstLine, printedChanges}
+use Rattle.listing.specs.Listing.{changeLines, printedChanges}
 use Rattle.listing.specs.Pieces.{empty, _before_, page, pieceOf, Written}
-use Rattle.listing.proofs.Laws.{texts-cons}
 
 -- what is appended at the buffer's start is a piece
 written : {entry exit text : List ℕ} {r : ℕ} (next : Progress) → Appended entry exit 0 r text

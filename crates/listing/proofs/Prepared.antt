@@ -28,9 +28,11 @@ use Rattle.core.proofs.Entry as entry
 use Rattle.core.proofs.Theorems.{pins-within, gates-within}
 use Rattle.report.specs.Text.{verdictLine}
 use Rattle.report.proofs.Lengths.{verdict-length}
-use Rattle.listing.specs.Listing.{texts, isClean, outputLine, changeLines}
-use Rattle.listing.specs.Lent.{Lined, textIn}
-use Rattle.listing.proofs.Laws.{texts-high, texts-same}
+use Rattle.lines.specs.Texts.{texts}
+use Rattle.lines.specs.Lent.{textIn}
+use Rattle.lines.proofs.Laws.{texts-high, texts-same}
+use Rattle.listing.specs.Listing.{isClean, outputLine, changeLines}
+use Rattle.listing.specs.Lent.{Lined}
 
 clean-byte : (v : Verdict) → eqb (verdictByte v) 0 ≡ isClean v
 clean-byte (clean k) = refl

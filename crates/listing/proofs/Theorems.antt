@@ -17,12 +17,13 @@ use Rattle.changes.specs.Refusals.{listChecked}
 use Rattle.changes.proofs.Accepted.{listed}
 use Rattle.report.specs.Text.{countsLine, verdictLine, refusalLine}
 use Rattle.report.proofs.Lengths.{line-some}
+use Rattle.lines.specs.Texts.{texts, firstLine}
+use Rattle.lines.proofs.Laws.{texts-join, texts-some}
 use Rattle.listing.specs.declared.Progress.{Progress}
 use Rattle.listing.specs.declared.Progress.the-variants.{Start, Change}
 use Rattle.listing.specs.declared.Piece.{Piece}
-use Rattle.listing.specs.Listing.{texts, outputLine, changeLines, firstLine, printedChanges, printed}
+use Rattle.listing.specs.Listing.{outputLine, changeLines, printedChanges, printed}
 use Rattle.listing.specs.Pieces.{Portion, empty, pieceOf, Written, Pieces, last, more, AllPrinted}
-use Rattle.listing.proofs.Laws.{texts-join, texts-some}
 use Rattle.listing.proofs.Pages.{page-none, reached}
 
 -- a piece is inside the buffer

@@ -1,7 +1,7 @@
 -- Document 01, "Gate walk and program": what the program prints.
-use Prim.Native.Nat.{ℕ, zero, suc, _+_}
+use Prim.Native.Nat.{ℕ}
 use mathlib.Core.Bool.{Bool, true, false}
-use mathlib.Core.List.{List, [], _++_}
+use mathlib.Core.List.{List, _++_}
 use Rattle.netlist.specs.Netlist.{outputsOf, outputAt}
 use Rattle.changes.specs.declared.Listed.{Listed}
 use Rattle.changes.specs.declared.Listed.the-variants.{Accepted, Refused}
@@ -9,12 +9,8 @@ use Rattle.changes.specs.Refusals.{listChecked}
 use Rattle.simulate.specs.Full.{classIn}
 use Rattle.search.specs.Search.{Verdict, clean, hazardous}
 use Rattle.core.specs.Core.{searchOf}
-use Rattle.report.specs.Text.{countsLine, verdictLine, refusalLine}
-
--- the texts f i, f (i + 1), .., n of them, one after the other
-unfoldable pub texts : (f : ℕ → List ℕ) → (i n : ℕ) → List ℕ
-texts f i zero = []
-texts f i (suc n) = texts f i n ++ f (i + n)
+use Rattle.report.specs.Text.{verdictLine}
+use Rattle.lines.specs.Texts.{texts, firstLine}
 
 -- a verdict's word is `clean` or `hazard`
 abbrev pub isClean : Verdict → Bool
@@ -30,11 +26,6 @@ outputLine n l change output =
 -- "then a line for each change and output, changes first"
 unfoldable pub changeLines : (netlist list : List ℕ) → (change : ℕ) → List ℕ
 changeLines n l change = texts (outputLine n l change) 0 (outputsOf n)
-
--- "prints a line with the counts I, G, O, T"; "On a refusal it prints only the line `refused N at P`, N the number and P the place."
-unfoldable pub firstLine : Listed → List ℕ
-firstLine (Refused number place) = refusalLine number place
-firstLine (Accepted task) = countsLine (task .shape .inputs) (task .shape .gates) (task .shape .outputs) (task .changes)
 
 -- the changes to print: none on a refusal
 unfoldable pub printedChanges : Listed → ℕ

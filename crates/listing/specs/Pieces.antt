@@ -7,10 +7,11 @@ use mathlib.Core.Logic.{_↔_}
 use lib.Dec.{ltb}
 use lib.ListN.{length, drop}
 use Rattle.changes.specs.Refusals.{listChecked}
+use Rattle.lines.specs.Texts.{firstLine}
 use Rattle.listing.specs.declared.Progress.{Progress}
 use Rattle.listing.specs.declared.Progress.the-variants.{Start, Change}
 use Rattle.listing.specs.declared.Piece.{Piece}
-use Rattle.listing.specs.Listing.{changeLines, firstLine, printedChanges, printed}
+use Rattle.listing.specs.Listing.{changeLines, printedChanges, printed}
 
 -- a piece's text, and where the next piece begins
 pub record Portion : Type 0 where

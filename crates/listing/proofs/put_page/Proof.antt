@@ -18,8 +18,9 @@ use Rattle.visit.specs.Lent.{inputsKnown}
 use Rattle.core.proofs.Entry as entry
 use Rattle.report.specs.Appended.{Appended}
 use Rattle.report.proofs.Appending.{kept}
-use Rattle.listing.specs.Listing.{texts, changeLines, printedChanges}
-use Rattle.listing.specs.Lent.{textIn}
+use Rattle.lines.specs.Texts.{texts}
+use Rattle.lines.specs.Lent.{textIn}
+use Rattle.listing.specs.Listing.{changeLines, printedChanges}
 use Rattle.listing.proofs.Laws.{changes-are}
 use Rattle.listing.proofs.Pages.{page-full, page-none, Grown, grown-none, grown-more, grown-all}
 use Rattle.listing.proofs.Prepared.{Unknown, unknown-first, unknown-again, lines-same, lines-high}

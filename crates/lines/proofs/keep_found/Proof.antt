@@ -1,11 +1,11 @@
--- `listing::keep_found` meets its contract. Assumes nothing.
+-- `lines::keep_found` meets its contract. Assumes nothing.
 use Prim.Native.Nat.{_+_}
 use native.Mathlib.Omega.{arith}
 use mathlib.Core.Path.{ap}
 use lib.ListN.{set, length-set}
 use borrow.Author.Needs.{needs}
-use Rattle.listing.proofs.keep_found.Statement.{statement}
-use Rattle.listing.proofs.keep_found.Tie as tie
+use Rattle.lines.proofs.keep_found.Statement.{statement}
+use Rattle.lines.proofs.keep_found.Tie as tie
 
 mul-lines : tie.Need-mul-lines
 mul-lines c = search needs

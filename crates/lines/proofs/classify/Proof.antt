@@ -1,4 +1,4 @@
--- `listing::classify` meets its contract. Assumes nothing.
+-- `lines::classify` meets its contract. Assumes nothing.
 use native.Mathlib.Omega.{arith}
 use Prim.Native.Nat.{ℕ}
 use mathlib.Core.Path.{_≡_, _∙_, ap}
@@ -10,10 +10,10 @@ use Rattle.changes.specs.Written.{inputCodes}
 use Rattle.sweep.specs.Sweep.{codesOf}
 use Rattle.simulate.proofs.Laws.{filled-passable}
 use Rattle.core.proofs.Entry.{list-formed, card-formed}
-use Rattle.listing.specs.Lent.{classesFrom}
+use Rattle.lines.specs.Lent.{classesFrom}
 use borrow.Author.Needs.{needs}
-use Rattle.listing.proofs.classify.Statement.{statement}
-use Rattle.listing.proofs.classify.Tie as tie
+use Rattle.lines.proofs.classify.Statement.{statement}
+use Rattle.lines.proofs.classify.Tie as tie
 
 -- the inputs' classes, then all signals'
 classes-from : (l : List ℕ) (task : Task) (rows : List ℕ) (t : ℕ) (old : List ℕ) {now exit : List ℕ}

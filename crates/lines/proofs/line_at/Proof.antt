@@ -1,9 +1,9 @@
--- `listing::line_at` meets its contract. Assumes nothing.
+-- `lines::line_at` meets its contract. Assumes nothing.
 use Prim.Native.Nat.{_+_, _*_}
 use native.Mathlib.Omega.{arith}
 use borrow.Author.Needs.{needs}
-use Rattle.listing.proofs.line_at.Statement.{statement}
-use Rattle.listing.proofs.line_at.Tie as tie
+use Rattle.lines.proofs.line_at.Statement.{statement}
+use Rattle.lines.proofs.line_at.Tie as tie
 
 mul-at : tie.Need-mul-at
 mul-at c = search needs

@@ -1,4 +1,4 @@
--- `listing::put_lines` meets its contract. The loop's invariant: the lines of the outputs so far are there. Assumes nothing.
+-- `lines::put_lines` meets its contract. The loop's invariant: the lines of the outputs so far are there. Assumes nothing.
 use Prim.Native.Nat.{_+_, _-_, _≤_}
 use native.Mathlib.Omega.{arith}
 use native.Mathlib.Nat.{zero-add}
@@ -8,12 +8,12 @@ use lib.ListN.{length}
 use Rattle.report.specs.Lines.{textOf}
 use Rattle.report.specs.Appended.{Appended}
 use Rattle.report.proofs.Appending.{nothing, kept}
-use Rattle.listing.specs.Listing.{texts}
-use Rattle.listing.specs.Lent.{textIn}
-use Rattle.listing.proofs.Laws.{texts-room, texts-then}
+use Rattle.lines.specs.Texts.{texts}
+use Rattle.lines.specs.Lent.{textIn}
+use Rattle.lines.proofs.Laws.{texts-room, texts-then}
 use borrow.Author.Needs.{needs}
-use Rattle.listing.proofs.put_lines.Statement.{statement}
-use Rattle.listing.proofs.put_lines.Tie as tie
+use Rattle.lines.proofs.put_lines.Statement.{statement}
+use Rattle.lines.proofs.put_lines.Tie as tie
 
 abbrev Inv-loop : tie.InvT-loop
 Inv-loop lines change outputs buffer₀ at next₀ output₀ buffer next output =

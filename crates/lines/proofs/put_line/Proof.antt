@@ -1,4 +1,4 @@
--- `listing::put_line` meets its contract: the line of the refusal, or of the counts. Assumes nothing.
+-- `lines::put_line` meets its contract: the line of the refusal, or of the counts. Assumes nothing.
 use Prim.Native.Nat.{ℕ, _+_, _≤_}
 use native.Mathlib.Omega.{arith}
 use mathlib.Core.Path.{_∙_, sym, ap, subst}
@@ -7,9 +7,9 @@ use Rattle.netlist.proofs.Accepted.{formed}
 use Rattle.changes.proofs.Accepted.{listed}
 use Rattle.report.specs.Appended.{Appended}
 use Rattle.report.proofs.Lengths.{counts-length, refusal-length}
-use Rattle.listing.specs.Listing.{firstLine}
-use Rattle.listing.proofs.put_line.Statement.{statement}
-use Rattle.listing.proofs.put_line.Tie as tie
+use Rattle.lines.specs.Texts.{firstLine}
+use Rattle.lines.proofs.put_line.Statement.{statement}
+use Rattle.lines.proofs.put_line.Tie as tie
 
 -- a text of at most 64 bytes has room
 fits : {text buffer : ℕ} → text ≤ 64 → 64 ≤ buffer → 0 + text ≤ buffer
