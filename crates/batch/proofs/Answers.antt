@@ -9,11 +9,12 @@ use Rattle.changes.specs.declared.Task.{Task}
 use Rattle.changes.specs.declared.Listed.the-variants as list
 use Rattle.changes.specs.Refusals.{listChecked}
 use Rattle.changes.proofs.Accepted.{listed}
-use Rattle.batch.specs.declared.Judged.{Judged}
-use Rattle.batch.specs.declared.Judged.the-variants.{Refused}
-use Rattle.batch.specs.Batch.{Method, allFrom, allAnswer, allBuffer, Answers}
-use Rattle.batch.specs.Lent.{Judges}
-use Rattle.batch.proofs.Rows.{Regular, rows-length}
+use Rattle.lists.specs.declared.Judged.{Judged}
+use Rattle.lists.specs.declared.Judged.the-variants.{Refused}
+use Rattle.lists.specs.Methods.{Method}
+use Rattle.lists.specs.Lent.{Judges}
+use Rattle.lists.proofs.Rows.{Regular, rows-length}
+use Rattle.batch.specs.Batch.{allFrom, allAnswer, allBuffer, Answers}
 
 module _ (m : Method) (n l buffer : List ℕ) where
   pub refused-list : (number place : ℕ) → listChecked n l ≡ list.Refused number place → Answers m n l buffer buffer (Refused number place)

@@ -1,178 +1,30 @@
--- The changes of an accepted list: the rows of each method, and how far it counts. Assumes nothing.
-use Prim.Native.Nat.{ℕ, zero, suc, _+_, _*_, _≤_, _<_}
+-- The rows of an analysis of an accepted list, and how many bytes they take. Assumes nothing.
+use Prim.Native.Nat.{ℕ, _*_, _≤_}
 use native.Mathlib.Omega.{arith}
-use native.Mathlib.Numerals.{add-one}
-use native.Mathlib.Nat.{add-comm, suc-mul, le-trans, mul-le-mul}
-use mathlib.Core.Bool.{Bool, true, false}
-use mathlib.Core.Path.{_≡_, refl, sym, _∙_, ap}
-use mathlib.Core.List.{List, _++_}
-use mathlib.Core.Option.{Option}
-use lib.ListN.{length, drop, replicate}
-use lib.Seq.{drop-at}
-use Rattle.kung.specs.Class.{Class}
-use Rattle.kung.specs.Rule.{some}
-use Rattle.kung.specs.Sets.{bit, cleanSet}
-use Rattle.kung.specs.Tables.{tab}
-use Rattle.kung.specs.Lookup.{searchTable}
-use Rattle.circuit.specs.Circuit.{Card}
-use Rattle.netlist.specs.Netlist.{inputsOf, gatesOf, outputsOf, outputAt, cardOf}
-use Rattle.netlist.specs.declared.Shape.{Shape}
-use Rattle.netlist.specs.Formed.{Formed}
-use Rattle.netlist.proofs.Accepted.{formed}
+use native.Mathlib.Nat.{mul-le-mul}
+use mathlib.Core.Path.{_≡_}
+use mathlib.Core.List.{List}
 use Rattle.changes.specs.declared.Task.{Task}
 use Rattle.changes.specs.declared.Listed.the-variants.{Accepted}
-use Rattle.changes.specs.Changes.{widthOf, inputClassAt}
-use Rattle.changes.specs.Lent.{Accepts, signalsOf}
-use Rattle.changes.specs.Written.{inputCodes, codeAt, written}
 use Rattle.changes.specs.Refusals.{listChecked}
-use Rattle.changes.proofs.Laws.{tab-length, written-all}
 use Rattle.changes.proofs.Accepted.{listed}
-use Rattle.simulate.proofs.Theorems.{codes-length}
-use Rattle.search.specs.Search.{Answer, search}
-use Rattle.search.specs.Pins.{sumBelow}
-use Rattle.visit.specs.Lent.{inputsKnown}
-use Rattle.core.specs.Core.{searchOf}
-use Rattle.core.specs.Outputs.{verdictByte, searchFrom, byteFrom, sumFrom}
-use Rattle.core.specs.Lent.{OutputsReady}
-use Rattle.core.proofs.Entry.{known-all, ready, output-is, outputs-ready, search-is}
-use Rattle.core.proofs.Outputs.{search-few}
-use Rattle.core.proofs.Theorems.{pins-within, gates-within}
-use Rattle.forward.specs.Constants.{isKnown, touched}
-use Rattle.forward.proofs.Changes.{sum-ext, tab-ext}
-use Rattle.forward.specs.Forward.{constantsIn, touchedIn, outputSearch, visitedIn, forwardBytes}
+use Rattle.lists.proofs.Rows.{Regular}
+use Rattle.lists.proofs.Changes.{card, full-regular, forward-regular, core-regular}
 use Rattle.batch.specs.declared.Analysis.{Analysis}
 use Rattle.batch.specs.declared.Analysis.the-variants.{Full, Forward, Core}
-use Rattle.batch.specs.Batch.{coreBytes, coreSum, fullOf, forwardOf, coreOf}
-use Rattle.batch.specs.Lent.{KnownRoom, methodOf, widthFor}
-use Rattle.batch.proofs.Rows.{Regular}
-
--- numbers of at most b each
-sum-high : (f : ℕ → ℕ) (b n : ℕ) → ((k : ℕ) → k < n → f k ≤ b) → sumBelow f n ≤ n * b
-unfolding sumBelow
-sum-high f b zero h = omega arith
-sum-high f b (suc n) h = omega (arith, suc-mul n b, sum-high f b n (λ k l. h k (omega arith)), h n (omega arith))
-
-bit-high : (b : Bool) → bit b ≤ 1
-bit-high true = omega arith
-bit-high false = omega arith
-
--- no more gates are touched than there are
-touched-few : (card : Card) (known : ℕ → Option Class) → touched card known ≤ card .gates
-unfolding touched
-touched-few card known =
-    le-trans
-    (sum-high (λ g. bit (some (λ x. isKnown (known x)) (card .pins g))) 1 (card .gates) (λ g h. bit-high (some (λ x. isKnown (known x)) (card .pins g))))
-    (omega arith)
-
--- a sum over the first c changes, which stays far below 64 bits
-pub record Counted (f : ℕ → ℕ) (c sum : ℕ) : Type 0 where
-  pub is : sum ≡ sumBelow f c
-  pub high : sum ≤ 1179648 * c
-
-pub counted-none : (f : ℕ → ℕ) → Counted f 0 0
-unfolding sumBelow
-counted-none f = record { is = refl; high = omega arith }
-
-pub counted-next : {f : ℕ → ℕ} {c sum : ℕ} → Counted f c sum → (more : ℕ) → more ≡ f c → f c ≤ 1179648 → Counted f (c + 1) (sum + more)
-unfolding sumBelow
-counted-next {c = c} s more e h = record { is = rw (s .is, e, add-one c) (add-comm _ _); high = omega (arith, s .high) }
+use Rattle.batch.specs.Lent.{methodOf, widthFor}
 
 module _ {task : Task} (n l : List ℕ) (accepted : listChecked n l ≡ Accepted task) where
-  abbrev o : ℕ
-  o = task .shape .outputs
-
-  pub card : Formed n (task .shape)
-  card = formed n (listed n l accepted .netlist-accepted)
-
-  pub full-regular : Regular (fullOf n l) (signalsOf (task .shape))
-  full-regular =
-      let wide : signalsOf (task .shape) ≡ inputsOf n + gatesOf n = omega (arith, card .inputs-are, card .gates-are) in
-      record { wide = wide; each = λ t. codes-length n l t ∙ sym wide }
-
-  pub forward-regular : Regular (forwardOf n l) o
-  unfolding forwardBytes
-  forward-regular = record { wide = card .outputs-are; each = λ t. tab-length _ 0 (outputsOf n) ∙ sym (card .outputs-are) }
-
-  pub core-regular : Regular (coreOf n l) o
-  unfolding coreBytes
-  core-regular = record { wide = card .outputs-are; each = λ t. tab-length _ 0 (outputsOf n) ∙ sym (card .outputs-are) }
-
   pub regular : (a : Analysis) → Regular (methodOf a n l) (widthFor a (task .shape))
-  regular Full = full-regular
-  regular Forward = forward-regular
-  regular Core = core-regular
+  regular Full = full-regular n l accepted
+  regular Forward = forward-regular n l accepted
+  regular Core = core-regular n l accepted
 
   pub width-high : (a : Analysis) → widthFor a (task .shape) ≤ 2304
-  width-high Full = omega (arith, card .inputs-high, card .gates-high)
-  width-high Forward = omega (arith, card .outputs-high)
-  width-high Core = omega (arith, card .outputs-high)
+  width-high Full = omega (arith, card n l accepted .inputs-high, card n l accepted .gates-high)
+  width-high Forward = omega (arith, card n l accepted .outputs-high)
+  width-high Core = omega (arith, card n l accepted .outputs-high)
 
   -- what all rows together take fits
   pub rows-fit : (w : ℕ) → w ≤ 2304 → task .changes * w ≤ 2304000
   rows-fit w h = mul-le-mul {n₁ = task .changes} {m₁ = w} {n₂ = 1000} {m₂ = 2304} (listed n l accepted .changes-high) h
-
-  pub touched-high : (c : ℕ) → touchedIn n l c ≤ 1179648
-  unfolding touchedIn cardOf
-  touched-high c = omega (arith, touched-few (cardOf n) (constantsIn n l c), card .gates-are, card .gates-high)
-
-  -- a count of each output
-  outputs-high : (f : ℕ → ℕ) → ((k : ℕ) → k < o → f k ≤ 18432) → sumBelow f (outputsOf n) ≤ 1179648
-  outputs-high f h =
-      le-trans (sum-high f 18432 (outputsOf n) (λ k l. h k (omega (arith, card .outputs-are)))) (omega (arith, card .outputs-are, card .outputs-high))
-
-  pub visited-high : (c : ℕ) → visitedIn n l c ≤ 1179648
-  unfolding visitedIn outputSearch
-  visited-high c =
-      outputs-high _
-      (λ k h. le-trans (search-few _ _ (outputAt n k)) (omega (arith, card .output-below k h, card .inputs-high, card .gates-high)))
-
-  pub searched-high : (c : ℕ) → (coreSum (λ a. a .gates) n l c ≤ 1179648) × (coreSum (λ a. a .pins) n l c ≤ 1179648)
-  unfolding coreSum
-  searched-high c =
-      let pins : (k : ℕ) → searchOf n l c k .pins ≤ 16384 = λ k. omega (arith, pins-within n l accepted c k, card .pins-high, card .gates-high) in (
-        outputs-high _ (λ k h. omega (arith, gates-within n l accepted c k, pins k)),
-        outputs-high _ (λ k h. omega (arith, pins k)),
-      )
-
--- filling the inputs of the next change leaves CORE its room: only their bytes are written
-pub room-next : {shape : Shape} {old : List ℕ} → KnownRoom old shape → (l : List ℕ) (w t : ℕ) (filled after : List ℕ)
-    → filled ≡ inputCodes l w t (shape .inputs) ++ drop (shape .inputs) old → length filled ≡ length old → after ≡ filled → KnownRoom after shape
-room-next {shape} {old} r l w t filled after e same is =
-    let i = shape .inputs in
-    rw is
-    (record {
-      told = omega (arith, r .told);
-      none-known =
-          ap (drop i) e ∙ drop-at (inputCodes l w t i) (drop i old) i (tab-length (codeAt l w t) 0 i) ∙ r .none-known
-          ∙ ap (λ n. drop i (replicate n 8)) (sym same);
-    })
-
--- CORE on a change: the inputs are known, and no gate
-module _ (n l rows : List ℕ) (task : Task) (a : Accepts n l rows task) (c : ℕ) (known : List ℕ)
-    (is : known ≡ inputsKnown (inputsOf n) (gatesOf n) (inputClassAt l (widthOf (inputsOf n)) c)) where
-  abbrev outputs : ℕ
-  outputs = task .shape .outputs
-
-  abbrev signals : ℕ
-  signals = signalsOf (task .shape)
-
-  pub searchable : {table : List ℕ} (room : ℕ) → table ≡ searchTable → outputs ≤ room → OutputsReady table rows known (task .shape) room
-  searchable room table-is enough =
-      outputs-ready n l rows task a c known (ready n l rows task a c table-is known is) (ap length is ∙ known-all n l rows task a c) room enough
-
-  search-same : (out : ℕ) → out < outputs → searchFrom rows known signals out ≡ searchOf n l c out
-  unfolding searchFrom searchOf
-  search-same out h =
-      search-is n l rows task a c known is cleanSet _ ∙ ap (search _ cleanSet) (output-is n l rows task a c out h)
-
-  pub sums-are : (count : Answer → ℕ) → sumFrom count rows known signals outputs ≡ coreSum count n l c
-  unfolding coreSum
-  sums-are count =
-      sum-ext _ _ outputs (λ out h. ap count (search-same out h)) ∙ ap (sumBelow _) (card n l (a .accepted) .outputs-are)
-
-  pub bytes-are : (old : List ℕ) → written old 0 (byteFrom rows known signals) outputs ≡ coreBytes n l c ++ drop outputs old
-  unfolding coreBytes
-  bytes-are old =
-      written-all old (byteFrom rows known signals) outputs
-      ∙ ap (λ bytes. bytes ++ drop outputs old)
-      (tab-ext _ _ outputs (λ out h. ap (λ a. verdictByte (a .verdict)) (search-same out h)) ∙ ap (tab _ 0) (card n l (a .accepted) .outputs-are))

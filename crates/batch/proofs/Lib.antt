@@ -1,4 +1,3 @@
-pub mod Rows
 pub mod Theorems
 mod Answers
 mod Changes

@@ -27,12 +27,13 @@ use Rattle.core.proofs.Entry.{answers}
 use Rattle.core.proofs.Theorems.{pins-within}
 use Rattle.forward.specs.Forward.{touchedIn, visitedIn, forwardBytes}
 use Rattle.forward.proofs.Answers as forward
-use Rattle.batch.specs.declared.Judged.the-variants.{Done, Refused}
-use Rattle.batch.specs.Batch.{rows, coreBytes, coreSum, Method, allFrom, doneFor, allAnswer, allBuffer}
+use Rattle.lists.specs.declared.Judged.the-variants.{Done, Refused}
+use Rattle.lists.specs.Methods.{rows, coreBytes, coreSum, Method, doneFor}
+use Rattle.lists.proofs.Rows.{Regular, rows-length}
+use Rattle.lists.proofs.Changes.{card, full-regular, forward-regular, core-regular}
+use Rattle.batch.specs.Batch.{allFrom, allAnswer, allBuffer}
 use Rattle.batch.specs.Single as single
 use Rattle.batch.specs.Single.{FullAlone, ForwardAlone, Says, CoreAlone, RowByRow, SingleCalls}
-use Rattle.batch.proofs.Rows.{Regular, rows-length}
-use Rattle.batch.proofs.Changes.{card, full-regular, forward-regular, core-regular}
 
 -- row t of T rows, whatever follows them
 rows-part : {m : Method} {w : ℕ} → Regular m w → (T t : ℕ) (rest : List ℕ) → t < T → take w (drop (t * w) (rows (m .row) T ++ rest)) ≡ m .row t

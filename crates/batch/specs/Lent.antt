@@ -1,34 +1,11 @@
--- What the code inside is lent and hands back; no contract of a public call cites it.
-use Prim.Native.Nat.{ℕ, _*_, _≤_}
-use mathlib.Core.Path.{_≡_}
-use mathlib.Core.List.{List, _++_}
-use lib.ListN.{length, drop, replicate}
+-- What the code inside speaks of; no contract of a public call cites it.
+use Prim.Native.Nat.{ℕ}
+use mathlib.Core.List.{List}
 use Rattle.netlist.specs.declared.Shape.{Shape}
-use Rattle.changes.specs.declared.Task.{Task}
-use Rattle.changes.specs.Lent.{Accepts, signalsOf}
-use Rattle.batch.specs.declared.Judged.{Judged}
+use Rattle.changes.specs.Lent.{signalsOf}
+use Rattle.lists.specs.Methods.{Method, fullOf, forwardOf, coreOf}
 use Rattle.batch.specs.declared.Analysis.{Analysis}
 use Rattle.batch.specs.declared.Analysis.the-variants.{Full, Forward, Core}
-use Rattle.batch.specs.Batch.{rows, Method, fullOf, forwardOf, coreOf, doneFor}
-
--- an accepted list with the rows of its netlist, and room for the rows of its changes
-pub record AllOf (m : Method) (netlist list rows : List ℕ) (task : Task) (room : ℕ) : Type 0 where
-  pub of : Accepts netlist list rows task
-  pub enough : task .changes * m .width ≤ room
-
--- CORE's room for one change after the other: a byte for each signal, of which past the inputs nothing is known
-pub record KnownRoom (known : List ℕ) (shape : Shape) : Type 0 where
-  pub told : signalsOf shape ≤ length known
-  pub none-known : drop (shape .inputs) known ≡ drop (shape .inputs) (replicate (length known) 8)
-
--- a buffer with the first T rows at its start
-abbrev pub rowed : Method → (T : ℕ) → (buffer : List ℕ) → List ℕ
-rowed m T buffer = rows (m .row) T ++ drop (T * m .width) buffer
-
--- a method's answer for the changes of an accepted list, and its rows
-pub record Judges (m : Method) (changes : ℕ) (entry exit : List ℕ) (r : Judged) : Type 0 where
-  pub answer : r ≡ doneFor m changes
-  pub bytes : exit ≡ rowed m changes entry
 
 -- the method of an analysis, and its bytes for a change
 abbrev pub methodOf : Analysis → (netlist list : List ℕ) → Method

@@ -12,8 +12,9 @@ use Rattle.core.specs.declared.Cored.{Cored}
 use Rattle.core.specs.declared.Cored.the-variants as cored
 use Rattle.forward.specs.Forward.{forwardAnswer, forwardBuffer}
 use Rattle.forward.specs.declared.Forwarded.the-variants as forwarded
-use Rattle.batch.specs.declared.Judged.the-variants.{Done}
-use Rattle.batch.specs.Batch.{Method, fullOf, forwardOf, coreOf, allAnswer, allBuffer}
+use Rattle.lists.specs.declared.Judged.the-variants.{Done}
+use Rattle.lists.specs.Methods.{Method, fullOf, forwardOf, coreOf}
+use Rattle.batch.specs.Batch.{allAnswer, allBuffer}
 
 -- What the calls for one change give, each method its own: a row of bytes and two counts.
 

@@ -2,9 +2,10 @@
 use Prim.Native.Nat.{ℕ}
 use mathlib.Core.Path.{_≡_}
 use mathlib.Core.List.{List, [], _∷_}
-use Rattle.batch.specs.declared.Judged.{Judged}
-use Rattle.batch.specs.declared.Judged.the-variants as batch
-use Rattle.batch.specs.Batch.{Method, allAnswer, allBuffer}
+use Rattle.batch.specs.Batch.{allAnswer, allBuffer}
+use Rattle.lists.specs.declared.Judged.{Judged}
+use Rattle.lists.specs.declared.Judged.the-variants as batch
+use Rattle.lists.specs.Methods.{Method}
 use Rattle.netlist.specs.declared.Checked.{Checked}
 use Rattle.netlist.specs.declared.Checked.the-variants as netlist
 use Rattle.changes.specs.declared.Listed.{Listed}

@@ -7,13 +7,13 @@ ghost use Rattle.kung.specs.Operation.{join, opAt};
 ghost use Rattle.netlist.specs.Netlist.{checked};
 ghost use Rattle.changes.specs.Refusals.{listChecked};
 ghost use Rattle.core.specs.Core.{coreAnswer};
-ghost use Rattle.batch.specs.Batch.{fullOf, forwardOf, coreOf};
+ghost use Rattle.lists.specs.Methods.{fullOf, forwardOf, coreOf};
 ghost use Rattle.walk.specs.Walk.{opened, startOf, walkAt, stepOf};
 ghost use Rattle.lanecard.specs.Answers.{netlistAnswer, listAnswer, Fulled, coredAnswer, ForwardedOf, judgedAnswer, AllJudged, startAnswer, stepAnswer};
-use batch::Judged;
 use changes::Listed;
 use core::Cored;
 use forward::Forwarded;
+use lists::Judged;
 use netlist::Checked;
 use simulate::Simulated;
 

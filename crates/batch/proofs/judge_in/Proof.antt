@@ -9,12 +9,14 @@ use Rattle.changes.specs.declared.Listed.the-variants.{Accepted}
 use Rattle.changes.specs.Lent.{Accepts, signalsOf}
 use Rattle.changes.specs.Refusals.{listChecked}
 use Rattle.changes.proofs.Rooms.{in-room, accepts}
+use Rattle.lists.specs.declared.Judged.{Judged}
+use Rattle.lists.specs.Lent.{AllOf, Judges}
+use Rattle.lists.proofs.Changes.{card}
 use Rattle.batch.specs.declared.Analysis.{Analysis}
-use Rattle.batch.specs.declared.Judged.{Judged}
 use Rattle.batch.specs.Batch.{Answers}
-use Rattle.batch.specs.Lent.{AllOf, Judges, methodOf, widthFor}
+use Rattle.batch.specs.Lent.{methodOf, widthFor}
 use Rattle.batch.proofs.Answers.{refused-list, refused-room, done}
-use Rattle.batch.proofs.Changes.{card, regular, width-high, rows-fit}
+use Rattle.batch.proofs.Changes.{regular, width-high, rows-fit}
 use borrow.Author.Needs.{needs}
 use Rattle.batch.proofs.judge_in.Statement.{statement}
 use Rattle.batch.proofs.judge_in.Tie as tie
@@ -154,7 +156,7 @@ returns-3 : tie.Need-returns-3
 returns-3 c =
     let r = c .before .before .before .before in
     let t = r .before .before .before .before in
-    answers (t .before .before) _ (t .enum-told .given .1) _ _ (r .full-rows .ensures)
+    answers (t .before .before) _ (t .enum-told .given .1) _ _ (r .full-rows .ensures .0)
 
 same-length-6 : tie.Need-same-length-6
 same-length-6 c = search needs
@@ -172,7 +174,7 @@ returns-4 : tie.Need-returns-4
 returns-4 c =
     let r = c .before .before .before .before .before .before in
     let t = r .before .before .before .before .before in
-    answers (t .before .before) _ (t .enum-told2 .given .1) _ _ (r .forward-rows .ensures)
+    answers (t .before .before) _ (t .enum-told2 .given .1) _ _ (r .forward-rows .ensures .0)
 
 same-length-10 : tie.Need-same-length-10
 same-length-10 c = search needs
@@ -187,7 +189,7 @@ returns-5 : tie.Need-returns-5
 returns-5 c =
     let r = c .before .before .before .before in
     let t = r .before .before .before .before in
-    answers (t .before .before) _ (t .enum-told3 .given .1) _ _ (r .core-rows .ensures)
+    answers (t .before .before) _ (t .enum-told3 .given .1) _ _ (r .core-rows .ensures .0)
 
 pub judge-in-spec : {M : Type 1} → statement M
 judge-in-spec =

@@ -1,10 +1,10 @@
--- `batch::core_rows` meets its contract. The loop's invariant: the rows of the changes so far are written, the counts are summed, and past the inputs
+-- `lists::core_rows` meets its contract. The loop's invariant: the rows of the changes so far are written, the counts are summed, and past the inputs
 -- nothing is known. Assumes nothing.
 use Prim.Native.Nat.{ℕ, _+_, _-_, _*_, _≤_}
 use native.Mathlib.Omega.{arith}
 use mathlib.Core.Path.{_≡_, refl, sym, _∙_, ap}
 use mathlib.Core.List.{List, _++_}
-use lib.ListN.{length, take, drop, take-append-drop}
+use lib.ListN.{length, take, drop}
 use Rattle.netlist.specs.Netlist.{inputsOf, gatesOf}
 use Rattle.changes.specs.Changes.{widthOf, inputClassAt}
 use Rattle.changes.specs.Lent.{Accepts, signalsOf}
@@ -12,19 +12,22 @@ use Rattle.changes.specs.declared.Task.{Task}
 use Rattle.changes.proofs.Accepted.{listed}
 use Rattle.visit.specs.Lent.{inputsKnown}
 use Rattle.core.proofs.Entry.{known-is, known-all}
-use Rattle.batch.specs.declared.Judged.the-variants.{Done}
-use Rattle.batch.specs.Batch.{coreSum, coreOf}
-use Rattle.batch.specs.Lent.{KnownRoom, rowed}
-use Rattle.batch.proofs.Rows.{Regular, lent-room, rowed-none, rowed-kept, rowed-room, rowed-next}
-use Rattle.batch.proofs.Changes.{Counted, counted-none, counted-next, card, core-regular, searched-high, room-next, searchable, sums-are, bytes-are}
+use Rattle.lists.specs.declared.Judged.the-variants.{Done}
+use Rattle.lists.specs.Methods.{coreSum, coreOf}
+use Rattle.lists.specs.Lent.{KnownRoom, rowed}
+use Rattle.lists.specs.Left.{after, filled}
+use Rattle.lists.proofs.Rows.{Regular, lent-room, part-back, rowed-none, rowed-kept, rowed-room, rowed-next}
+use Rattle.lists.proofs.Changes.{Counted, counted-none, counted-next, card, core-regular, searched-high, room-next, searchable, sums-are, bytes-are}
+use Rattle.lists.proofs.Left.{after-none, after-next}
 use borrow.Author.Needs.{needs}
-use Rattle.batch.proofs.core_rows.Statement.{statement}
-use Rattle.batch.proofs.core_rows.Tie as tie
+use Rattle.lists.proofs.core_rows.Statement.{statement}
+use Rattle.lists.proofs.core_rows.Tie as tie
 
 abbrev Inv-loop : tie.InvT-loop
 Inv-loop netlist list task rows known₀ buffer₀ search shape signals outputs visited₀ taken₀ change₀ change-end known buffer visited taken change =
     (change ≤ change-end) × (buffer ≡ rowed (coreOf netlist list) change buffer₀) × Counted (coreSum (λ a. a .gates) netlist list) change visited
     × Counted (coreSum (λ a. a .pins) netlist list) change taken × KnownRoom known (task .shape) × (length known ≡ length known₀)
+    × (known ≡ after (filled list task) change known₀)
 
 abbrev μ-loop : tie.MeasureT-loop
 μ-loop netlist list task rows known₀ buffer₀ search shape signals outputs visited₀ taken₀ change₀ change-end known buffer visited taken change =
@@ -128,7 +131,7 @@ add-signals c =
 loop-holds : tie.Need-loop-holds Inv-loop μ-loop
 loop-holds c =
     let s = c .before .before .before .before .before .before .before .before in
-    (search needs, rowed-none (regular s) _, counted-none _, counted-none _, s .pre .1, refl)
+    (search needs, rowed-none (regular s) _, counted-none _, counted-none _, s .pre .1, refl, after-none _ _)
 
 mul-at : tie.Need-mul-at Inv-loop μ-loop
 mul-at c = omega (arith, room c, kept (c .before))
@@ -182,10 +185,7 @@ add-change c =
 -- a search leaves what is known
 again : (c : tie.After-search-outputs Inv-loop μ-loop) → let f = filling c in
     c .search-outputs .last .1 .1 .1 .0 ++ drop (signals (b f)) (f .fill-inputs .last .1 .1 .1 .0) ≡ f .fill-inputs .last .1 .1 .1 .0
-again c =
-    let f = filling c in
-    let filled = f .fill-inputs .last .1 .1 .1 .0 in
-    ap (λ k. k ++ drop (signals (b f)) filled) (c .search-outputs .ensures .1 .1 .1) ∙ take-append-drop (signals (b f)) filled
+again c = part-back (signals (b (filling c))) _ _ (c .search-outputs .ensures .1 .1 .1)
 
 loop-less : tie.Need-loop-less Inv-loop μ-loop
 loop-less c = search needs
@@ -204,6 +204,7 @@ loop-again c =
       room-next (l .loop .inv .4) (list s) (task s .width) (l .loop .change) (f .fill-inputs .last .1 .1 .1 .0) _ (f .fill-inputs .ensures)
           (f .fill-inputs .kept .1 .1 .1 .0) (again o),
       ap length (again o) ∙ f .fill-inputs .kept .1 .1 .1 .0 ∙ l .loop .inv .5,
+      after-next _ _ (l .loop .change) _ _ (l .loop .inv .6) (again o ∙ f .fill-inputs .ensures),
     )
 
 same-length : tie.Need-same-length Inv-loop μ-loop
@@ -216,8 +217,10 @@ returns : tie.Need-returns Inv-loop μ-loop
 returns c =
     let s = begun (c .before) in
     let i = c .before .loop .inv in
-    let e : c .before .loop .change ≡ task s .changes = search needs in
-    record { answer = rw (← e) (λ k. Done (c .before .loop .change) (regular s .wide k) (i .2 .is k) (i .3 .is k)); bytes = rw (← e) (i .1) }
+    let e : c .before .loop .change ≡ task s .changes = search needs in (
+      record { answer = rw (← e) (λ k. Done (c .before .loop .change) (regular s .wide k) (i .2 .is k) (i .3 .is k)); bytes = rw (← e) (i .1) },
+      rw (← e) (i .6),
+    )
 
 pub core-rows-spec : {M : Type 1} → statement M
 core-rows-spec =

@@ -1,28 +1,31 @@
--- `batch::forward_rows` meets its contract. The loop's invariant: the rows of the changes so far are written, and the counts are summed. Assumes nothing.
+-- `lists::forward_rows` meets its contract. The loop's invariant: the rows of the changes so far are written, and the counts are summed. Assumes nothing.
 use Prim.Native.Nat.{ℕ, _+_, _-_, _*_, _≤_}
 use native.Mathlib.Omega.{arith}
 use mathlib.Core.Path.{_≡_, refl, sym, _∙_, ap}
 use mathlib.Core.List.{List, _++_}
-use lib.ListN.{length, take, drop, take-append-drop}
+use lib.ListN.{length, take, drop}
 use Rattle.changes.specs.Lent.{Accepts, signalsOf}
 use Rattle.changes.specs.declared.Task.{Task}
 use Rattle.changes.proofs.Accepted.{listed}
 use Rattle.simulate.proofs.Laws.{filled-passable}
 use Rattle.forward.specs.Forward.{touchedIn, visitedIn}
 use Rattle.forward.proofs.Changes as changes
-use Rattle.batch.specs.declared.Judged.the-variants.{Done}
-use Rattle.batch.specs.Batch.{forwardOf}
-use Rattle.batch.specs.Lent.{rowed}
-use Rattle.batch.proofs.Rows.{Regular, lent-room, rowed-none, rowed-kept, rowed-room, rowed-next}
-use Rattle.batch.proofs.Changes.{Counted, counted-none, counted-next, card, forward-regular, touched-high, visited-high}
+use Rattle.lists.specs.declared.Judged.the-variants.{Done}
+use Rattle.lists.specs.Methods.{forwardOf}
+use Rattle.lists.specs.Lent.{rowed}
+use Rattle.lists.specs.Left.{after, heated, constants}
+use Rattle.lists.proofs.Rows.{Regular, lent-room, part-back, rowed-none, rowed-kept, rowed-room, rowed-next}
+use Rattle.lists.proofs.Changes.{Counted, counted-none, counted-next, card, forward-regular, touched-high, visited-high}
+use Rattle.lists.proofs.Left.{after-none, after-next, heated-by, constants-by}
 use borrow.Author.Needs.{needs}
-use Rattle.batch.proofs.forward_rows.Statement.{statement}
-use Rattle.batch.proofs.forward_rows.Tie as tie
+use Rattle.lists.proofs.forward_rows.Statement.{statement}
+use Rattle.lists.proofs.forward_rows.Tie as tie
 
 abbrev Inv-loop : tie.InvT-loop
 Inv-loop netlist list task rows known₀ hot₀ buffer₀ table search shape signals outputs touched₀ visited₀ change₀ change-end known hot buffer touched visited change =
     (change ≤ change-end) × (buffer ≡ rowed (forwardOf netlist list) change buffer₀) × Counted (touchedIn netlist list) change touched
     × Counted (visitedIn netlist list) change visited × (length known ≡ length known₀) × (length hot ≡ length hot₀)
+    × (known ≡ after (constants netlist list task) change known₀) × (hot ≡ after (heated netlist list task) change hot₀)
 
 abbrev μ-loop : tie.MeasureT-loop
 μ-loop netlist list task rows known₀ hot₀ buffer₀ table search shape signals outputs touched₀ visited₀ change₀ change-end known hot buffer touched visited change =
@@ -147,6 +150,8 @@ loop-holds c = (
   counted-none _,
   refl,
   refl,
+  after-none _ _,
+  after-none _ _,
 )
 
 mul-at : tie.Need-mul-at Inv-loop μ-loop
@@ -210,10 +215,7 @@ add-change c =
 -- a search leaves what is known
 again : (c : tie.After-search-outputs Inv-loop μ-loop) → let p = spreading c in
     c .search-outputs .last .1 .1 .1 .0 ++ drop (signals (b p)) (p .spread .last .1 .1 .1 .1 .0) ≡ p .spread .last .1 .1 .1 .1 .0
-again c =
-    let p = spreading c in
-    let spread = p .spread .last .1 .1 .1 .1 .0 in
-    ap (λ k. k ++ drop (signals (b p)) spread) (c .search-outputs .ensures .1 .1 .1) ∙ take-append-drop (signals (b p)) spread
+again c = part-back (signals (b (spreading c))) _ _ (c .search-outputs .ensures .1 .1 .1)
 
 loop-less : tie.Need-loop-less Inv-loop μ-loop
 loop-less c = search needs
@@ -232,6 +234,10 @@ loop-again c =
       visited o,
       ap length (again o) ∙ p .spread .kept .1 .1 .1 .1 .0 ∙ filling p .fill-inputs .kept .1 .1 .1 .0 ∙ l .loop .inv .4,
       p .spread .kept .1 .1 .1 .1 .1 .0 ∙ l .loop .inv .5,
+      after-next _ _ (l .loop .change) _ _ (l .loop .inv .6)
+          (again o ∙ constants-by _ _ (rows s) _ (given s) _ _ _ (filling p .fill-inputs .ensures) _ (p .spread .ensures .1 .0)),
+      after-next _ _ (l .loop .change) _ _ (l .loop .inv .7)
+          (heated-by _ _ (rows s) _ (given s) _ _ _ (filling p .fill-inputs .ensures) _ _ (p .spread .ensures .1 .1)),
     )
 
 same-length : tie.Need-same-length Inv-loop μ-loop
@@ -247,8 +253,10 @@ returns : tie.Need-returns Inv-loop μ-loop
 returns c =
     let s = begun (c .before) in
     let i = c .before .loop .inv in
-    let e : c .before .loop .change ≡ task s .changes = search needs in
-    record { answer = rw (← e) (λ k. Done (c .before .loop .change) (regular s .wide k) (i .2 .is k) (i .3 .is k)); bytes = rw (← e) (i .1) }
+    let e : c .before .loop .change ≡ task s .changes = search needs in (
+      record { answer = rw (← e) (λ k. Done (c .before .loop .change) (regular s .wide k) (i .2 .is k) (i .3 .is k)); bytes = rw (← e) (i .1) },
+      (rw (← e) (i .6), rw (← e) (i .7)),
+    )
 
 pub forward-rows-spec : {M : Type 1} → statement M
 forward-rows-spec =

@@ -1,4 +1,4 @@
--- `batch::full_rows` meets its contract. The loop's invariant: the rows of the changes so far are written. Assumes nothing.
+-- `lists::full_rows` meets its contract. The loop's invariant: the rows of the changes so far are written. Assumes nothing.
 use Prim.Native.Nat.{ℕ, _+_, _-_, _*_, _≤_}
 use native.Mathlib.Omega.{arith}
 use mathlib.Core.Path.{_≡_, refl, _∙_, ap}
@@ -8,18 +8,21 @@ use Rattle.changes.specs.Lent.{signalsOf}
 use Rattle.changes.specs.declared.Task.{Task}
 use Rattle.changes.proofs.Accepted.{listed}
 use Rattle.simulate.proofs.Laws.{filled-passable, swept}
-use Rattle.batch.specs.declared.Judged.the-variants.{Done}
-use Rattle.batch.specs.Batch.{fullOf}
-use Rattle.batch.specs.Lent.{rowed}
-use Rattle.batch.proofs.Rows.{Regular, lent-room, rowed-none, rowed-kept, rowed-room, rowed-next}
-use Rattle.batch.proofs.Changes.{card, full-regular}
+use Rattle.lists.specs.declared.Judged.the-variants.{Done}
+use Rattle.lists.specs.Methods.{fullOf}
+use Rattle.lists.specs.Lent.{rowed}
+use Rattle.lists.specs.Left.{after, heated}
+use Rattle.lists.proofs.Rows.{Regular, lent-room, rowed-none, rowed-kept, rowed-room, rowed-next}
+use Rattle.lists.proofs.Changes.{card, full-regular}
+use Rattle.lists.proofs.Left.{after-none, after-next, heated-by}
 use borrow.Author.Needs.{needs}
-use Rattle.batch.proofs.full_rows.Statement.{statement}
-use Rattle.batch.proofs.full_rows.Tie as tie
+use Rattle.lists.proofs.full_rows.Statement.{statement}
+use Rattle.lists.proofs.full_rows.Tie as tie
 
 abbrev Inv-loop : tie.InvT-loop
 Inv-loop netlist list task rows hot₀ buffer₀ table shape signals change₀ change-end hot buffer change =
     (change ≤ change-end) × (buffer ≡ rowed (fullOf netlist list) change buffer₀) × (length hot ≡ length hot₀)
+    × (hot ≡ after (heated netlist list task) change hot₀)
 
 abbrev μ-loop : tie.MeasureT-loop
 μ-loop netlist list task rows hot₀ buffer₀ table shape signals change₀ change-end hot buffer change = change-end - change
@@ -63,7 +66,7 @@ add-signals c =
     omega (arith, f .inputs-high, f .gates-high)
 
 loop-holds : tie.Need-loop-holds Inv-loop μ-loop
-loop-holds c = (search needs, rowed-none (regular (c .before .before .before .before .before .before .before .before)) _, refl)
+loop-holds c = (search needs, rowed-none (regular (c .before .before .before .before .before .before .before .before)) _, refl, after-none _ _)
 
 mul-at : tie.Need-mul-at Inv-loop μ-loop
 mul-at c = omega (arith, room c, kept (c .before))
@@ -115,6 +118,8 @@ loop-again c =
       rowed-next (regular s) (i .before .loop .change) _ _ _ (i .before .loop .inv .1)
           (swept _ _ _ _ (s .pre .0 .of) _ _ _ (f .fill-inputs .ensures) _ (p .pass .ensures .codes)),
       p .pass .kept .1 .1 .1 .1 .0 ∙ i .before .loop .inv .2,
+      after-next _ _ (i .before .loop .change) _ _ (i .before .loop .inv .3)
+          (heated-by _ _ _ _ (s .pre .0 .of) _ _ _ (f .fill-inputs .ensures) _ _ (p .pass .ensures .hots)),
     )
 
 same-length : tie.Need-same-length Inv-loop μ-loop
@@ -126,8 +131,10 @@ same-length-2 c = kept (c .before)
 returns : tie.Need-returns Inv-loop μ-loop
 returns c =
     let s = begun (c .before) in
-    let e : c .before .loop .change ≡ task s .changes = search needs in
-    record { answer = ap (λ w. Done (task s .changes) w 0 0) (regular s .wide); bytes = rw (← e) (c .before .loop .inv .1) }
+    let e : c .before .loop .change ≡ task s .changes = search needs in (
+      record { answer = ap (λ w. Done (task s .changes) w 0 0) (regular s .wide); bytes = rw (← e) (c .before .loop .inv .1) },
+      rw (← e) (c .before .loop .inv .3),
+    )
 
 pub full-rows-spec : {M : Type 1} → statement M
 full-rows-spec =

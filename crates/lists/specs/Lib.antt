@@ -1,0 +1,3 @@
+pub mod Methods
+pub mod Lent
+pub mod Left
