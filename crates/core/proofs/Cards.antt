@@ -17,7 +17,8 @@ use Rattle.circuit.specs.Circuit.{Source, given, gate, pinsOf, sources}
 use Rattle.circuit.proofs.Laws.{sources-cases, sources-above}
 use Rattle.rows.specs.Lent.{GateRow}
 use Rattle.words.proofs.Laws.{words-length}
-use Rattle.netlist.specs.Netlist.{inputsOf, gatesOf, countAt, placeOf, pinsBelow, pinTotal, cardOf}
+use Rattle.records.specs.Records.{countAt}
+use Rattle.netlist.specs.Netlist.{inputsOf, gatesOf, placeOf, pinsBelow, pinTotal, cardOf}
 use Rattle.netlist.specs.Decoded.{Decoded}
 use Rattle.changes.proofs.Laws.{tab-length}
 use Rattle.search.specs.Search.{search}

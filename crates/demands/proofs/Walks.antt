@@ -11,8 +11,10 @@ use lib.ListN.{length}
 use denote.Ref.{RefT, now}
 use Rattle.words.specs.Words.{outside}
 use Rattle.words.proofs.Laws.{within}
-use Rattle.netlist.specs.Netlist.{gatesOf, kindAt, countAt, pastRecord, noKind, leastPins, mostPins, unfit, placeOf, shapeOf, accepted, checked}
-use Rattle.netlist.proofs.Accepted.{formed, least-some, most-eight}
+use Rattle.records.specs.Records.{kindAt, countAt, pastRecord, noKind, leastPins, mostPins, unfit}
+use Rattle.records.proofs.Meanings.{least-some, most-eight}
+use Rattle.netlist.specs.Netlist.{gatesOf, placeOf, shapeOf, accepted, checked}
+use Rattle.netlist.proofs.Accepted.{formed}
 use Rattle.netlist.proofs.Proper.{first-refusal}
 use Rattle.walk.specs.declared.Walk.{Walk}
 use Rattle.walk.specs.declared.Found.{Found}

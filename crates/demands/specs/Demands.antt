@@ -11,8 +11,8 @@ use denote.Ref.{RefT, now}
 use Rattle.kung.specs.Class.{code, ofCode, clean, inputClass}
 use Rattle.kung.specs.Rule.{gateClass}
 use Rattle.circuit.specs.Settled.{settled}
+use Rattle.records.specs.Records.{kindAt, countAt, pastRecord, leastPins, mostPins}
 use Rattle.netlist.specs.Netlist.{inputsOf, gatesOf, outputsOf, outputAt, gateKind, gatePins, cardOf, accepted, checked}
-use Rattle.netlist.specs.Netlist.{kindAt, countAt, pastRecord, leastPins, mostPins}
 use Rattle.netlist.specs.Proper.{Proper, conditions, firstMet}
 use Rattle.netlist.specs.declared.Checked.the-variants as netlist
 use Rattle.changes.specs.Changes.{first, second, bitOf, widthOf}

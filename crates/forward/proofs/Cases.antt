@@ -10,6 +10,7 @@ use Rattle.kung.specs.Tables.{tab}
 use Rattle.circuit.specs.Circuit.{sources}
 use Rattle.words.specs.Words.{wordAt, longAt, wordsAt, marked, outside, tieFrom, tieOf}
 use Rattle.words.specs.Refusal.{refuse}
+use Rattle.records.specs.Records as records
 use Rattle.netlist.specs.Netlist as netlist
 use Rattle.changes.specs.Changes.{bitAt, inputClassAt, sourcesOf}
 use Rattle.changes.specs.Refusals as list
@@ -30,7 +31,7 @@ unfolding forwardAnswer forwardBuffer forwardFrom touchedIn outputSearch forward
     sources sourcesOf inputClassAt bitAt wordAt longAt wordsAt marked outside tieOf tieFrom
     list.listChecked list.against list.afterNetlist list.sparesFrom list.spareAt list.spareBits
     netlist.checked netlist.checkedWithin netlist.bodyWithin netlist.body netlist.accepted netlist.outputs netlist.counts netlist.opening
-    netlist.recordsFrom netlist.recordAt netlist.mostPins netlist.leastPins netlist.noKind netlist.wordsBelow
+    netlist.recordsFrom netlist.recordAt records.mostPins records.leastPins records.noKind netlist.wordsBelow
     refuse netlist.pinsBelow netlist.placeOf netlist.cardOf
 called n l = (forwardAnswer n l 0 (7 ∷ 9 ∷ []), forwardBuffer n l 0 (7 ∷ 9 ∷ []))
 

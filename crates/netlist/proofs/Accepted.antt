@@ -3,21 +3,22 @@ use Prim.Native.Nat.{ℕ, zero, suc, _+_, _*_, _≤_, _<_}
 use native.Mathlib.Omega.{arith}
 use native.Mathlib.Nat.{add-zero, zero-add}
 use mathlib.Core.Path.{_≡_, sym, ap}
-use mathlib.Core.Bool.{Bool, true, false, cond}
+use mathlib.Core.Bool.{Bool, false}
 use mathlib.Core.List.{List}
 use borrow.Author.Tests.{leb-false, ltb-false}
-use lib.Dec.{leb}
 use lib.ListN.{length}
 use Rattle.circuit.specs.Circuit.{Each}
 use Rattle.words.specs.Words.{wordAt, wordsAt}
 use Rattle.words.specs.Refusal.{refuse}
 use Rattle.words.proofs.Laws.{within}
 use Rattle.words.proofs.Refusal as words
+use Rattle.records.specs.Records.{kindAt, countAt, pinAt, noKind, leastPins, mostPins}
+use Rattle.records.proofs.Meanings.{least-some, most-eight}
 use Rattle.netlist.specs.declared.Shape.{Shape}
 use Rattle.netlist.specs.declared.Checked.{Checked}
 use Rattle.netlist.specs.declared.Checked.the-variants.{Accepted, Refused}
-use Rattle.netlist.specs.Netlist.{inputsOf, gatesOf, outputsOf, kindAt, countAt, pinAt, placeOf, pinsBelow, pinTotal, entriesAt, outputsEnd, cardOf}
-use Rattle.netlist.specs.Netlist.{wordsBelow, noKind, leastPins, mostPins, recordAt, recordsFrom}
+use Rattle.netlist.specs.Netlist.{inputsOf, gatesOf, outputsOf, placeOf, pinsBelow, pinTotal, entriesAt, outputsEnd, cardOf}
+use Rattle.netlist.specs.Netlist.{wordsBelow, recordAt, recordsFrom}
 use Rattle.netlist.specs.Netlist.{opening, counts, outputs, shapeOf, accepted, body, bodyWithin, checkedWithin, checked}
 use Rattle.netlist.specs.Formed.{RecordFormed, Formed}
 use Rattle.netlist.proofs.Laws.{place-pins}
@@ -42,22 +43,6 @@ GateFormed s gate = RecordFormed s (placeOf s gate) × PinsBelow s (inputsOf s +
 first-then : (P : ℕ → Type 0) (n : ℕ) → P zero → ((k : ℕ) → k < n → P (suc k)) → (k : ℕ) → k < suc n → P k
 first-then P n a r zero l = a
 first-then P n a r (suc k) l = r k (omega arith)
-
-pub least-some : (kind : ℕ) → 1 ≤ leastPins kind
-unfolding leastPins
-least-some kind = go (leb kind 2)
-  where
-    go : (b : Bool) → 1 ≤ cond b 1 2
-    go true = omega arith
-    go false = omega arith
-
-pub most-eight : (kind : ℕ) → mostPins kind ≤ 8
-unfolding mostPins
-most-eight kind = go (leb kind 2)
-  where
-    go : (b : Bool) → cond b 1 8 ≤ 8
-    go true = omega arith
-    go false = omega arith
 
 pins-high : (s : List ℕ) (gates : ℕ) → ((g : ℕ) → g < gates → RecordFormed s (placeOf s g)) → (g : ℕ) → g ≤ gates → pinsBelow s g ≤ 8 * g
 unfolding pinsBelow

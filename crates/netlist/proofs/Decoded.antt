@@ -21,12 +21,13 @@ use Rattle.rows.specs.Lent.{GateRow}
 use Rattle.rows.specs.Making.{rowPin, rowAt, putAt}
 use Rattle.rows.proofs.Making.{tab-length, row-length, row-pin, pin-own, pin-past, length-put, put-own, put-before}
 use Rattle.rows.proofs.Told.{Takes, word-count, word-kind}
+use Rattle.records.specs.Records.{kindAt, countAt, pinAt, leastPins, mostPins}
+use Rattle.records.specs.Reading.{wordOf}
 use Rattle.netlist.specs.declared.Shape.{Shape}
 use Rattle.netlist.specs.declared.Checked.{Checked}
 use Rattle.netlist.specs.declared.Checked.the-variants.{Accepted}
-use Rattle.netlist.specs.Netlist.{inputsOf, gatesOf, outputsOf, kindAt, countAt, pinAt, placeOf, entriesAt, outputAt, gateKind, gatePins, cardOf}
-use Rattle.netlist.specs.Netlist.{leastPins, mostPins, recordsFrom, body, checked}
-use Rattle.netlist.specs.Reading.{wordOf}
+use Rattle.netlist.specs.Netlist.{inputsOf, gatesOf, outputsOf, placeOf, entriesAt, outputAt, gateKind, gatePins, cardOf}
+use Rattle.netlist.specs.Netlist.{recordsFrom, body, checked}
 use Rattle.netlist.specs.Formed.{RecordFormed, Formed}
 use Rattle.netlist.specs.Decoded.{recordFits, rowOf, rowsFrom, early, withOutputs, decodedBy, decoded, Decoded}
 use Rattle.netlist.proofs.Accepted.{formed, body-accepted}

@@ -4,7 +4,8 @@ use native.Mathlib.Omega.{arith}
 use native.Mathlib.Numerals.{add-one}
 use mathlib.Core.Path.{_≡_, refl}
 use mathlib.Core.List.{List}
-use Rattle.netlist.specs.Netlist.{countAt, pastRecord, placeOf, pinsBelow}
+use Rattle.records.specs.Records.{countAt, pastRecord}
+use Rattle.netlist.specs.Netlist.{placeOf, pinsBelow}
 
 -- the next record's place, and the pins below it
 pub place-next : (s : List ℕ) (g at : ℕ) → at ≡ placeOf s g → pastRecord s at ≡ placeOf s (g + 1)

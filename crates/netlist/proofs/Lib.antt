@@ -1,5 +1,4 @@
 pub mod Laws
-pub mod Meanings
 pub mod Refusals
 pub mod Accepted
 pub mod Heads

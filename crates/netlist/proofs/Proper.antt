@@ -12,11 +12,12 @@ use Rattle.words.specs.Words.{wordAt, outside}
 use Rattle.words.specs.Refusal.{refuse}
 use Rattle.words.proofs.Laws.{inside}
 use Rattle.words.proofs.Refusal.{pass}
+use Rattle.records.specs.Records.{kindAt, countAt, noKind, leastPins, mostPins}
 use Rattle.netlist.specs.declared.Shape.{Shape}
 use Rattle.netlist.specs.declared.Checked.{Checked}
 use Rattle.netlist.specs.declared.Checked.the-variants.{Accepted, Refused}
-use Rattle.netlist.specs.Netlist.{inputsOf, gatesOf, outputsOf, kindAt, countAt, placeOf, entriesAt, outputsEnd}
-use Rattle.netlist.specs.Netlist.{wordsBelow, noKind, leastPins, mostPins, recordAt, recordsFrom}
+use Rattle.netlist.specs.Netlist.{inputsOf, gatesOf, outputsOf, placeOf, entriesAt, outputsEnd}
+use Rattle.netlist.specs.Netlist.{wordsBelow, recordAt, recordsFrom}
 use Rattle.netlist.specs.Netlist.{opening, counts, outputs, accepted, shapeOf, body, bodyWithin, checkedWithin, checked}
 use Rattle.netlist.specs.Proper.{ProperRecord, Proper, Condition, when, firstMet}
 use Rattle.netlist.specs.Proper.{wordConditions, headConditions, recordConditions, recordsConditions, outputConditions, conditions}

@@ -9,9 +9,10 @@ use mathlib.Core.List.{List, [], _∷_, _++_}
 use lib.ListN.{length}
 use Rattle.rows.specs.Making.{rowAt, putAt}
 use Rattle.rows.proofs.Making.{length-put}
+use Rattle.records.specs.Records.{countAt}
+use Rattle.records.specs.Reading.{wordOf}
 use Rattle.netlist.specs.declared.Checked.{Checked}
-use Rattle.netlist.specs.Netlist.{inputsOf, gatesOf, countAt, placeOf, pinsBelow, pinTotal, entriesAt, recordAt, recordsFrom, outputs, accepted, body}
-use Rattle.netlist.specs.Reading.{wordOf}
+use Rattle.netlist.specs.Netlist.{inputsOf, gatesOf, placeOf, pinsBelow, pinTotal, entriesAt, recordAt, recordsFrom, outputs, accepted, body}
 use Rattle.netlist.specs.Decoded.{recordFits, rowOf, rowsFrom}
 use Rattle.netlist.proofs.Laws.{place-next, pins-next}
 use Rattle.netlist.proofs.Passing.{Passes, fits}

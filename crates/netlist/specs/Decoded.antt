@@ -9,11 +9,12 @@ use Rattle.words.specs.Words.{wordsAt}
 use Rattle.rows.specs.Rows.{rowKind, rowPins, outputIn}
 use Rattle.rows.specs.Lent.{GateRow}
 use Rattle.rows.specs.Making.{rowAt, putAt}
+use Rattle.records.specs.Records.{countAt}
+use Rattle.records.specs.Reading.{wordOf}
 use Rattle.netlist.specs.declared.Checked.{Checked}
 use Rattle.netlist.specs.declared.Checked.the-variants.{Accepted, Refused}
-use Rattle.netlist.specs.Netlist.{inputsOf, gatesOf, outputsOf, countAt, placeOf, entriesAt, outputAt, gateKind, gatePins}
+use Rattle.netlist.specs.Netlist.{inputsOf, gatesOf, outputsOf, placeOf, entriesAt, outputAt, gateKind, gatePins}
 use Rattle.netlist.specs.Netlist.{recordAt, accepted, checked}
-use Rattle.netlist.specs.Reading.{wordOf}
 
 -- whether nothing is refused
 unfoldable pub passes : Checked → Bool

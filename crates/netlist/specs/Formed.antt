@@ -4,9 +4,9 @@ use mathlib.Core.Path.{_≡_}
 use mathlib.Core.List.{List}
 use lib.ListN.{length}
 use Rattle.circuit.specs.Circuit.{WellFormed}
+use Rattle.records.specs.Records.{kindAt, countAt, pinAt, pastRecord, leastPins, mostPins}
 use Rattle.netlist.specs.declared.Shape.{Shape}
-use Rattle.netlist.specs.Netlist.{inputsOf, gatesOf, outputsOf, kindAt, countAt, pinAt, pastRecord, placeOf, pinTotal, entriesAt, outputAt, cardOf}
-use Rattle.netlist.specs.Netlist.{leastPins, mostPins}
+use Rattle.netlist.specs.Netlist.{inputsOf, gatesOf, outputsOf, placeOf, pinTotal, entriesAt, outputAt, cardOf}
 
 -- a record's form: a kind, a pin count that the kind takes, and room for the pins
 pub record RecordFormed (s : List ℕ) (at : ℕ) : Type 0 where

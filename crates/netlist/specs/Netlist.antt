@@ -1,13 +1,14 @@
 -- Document 01, "The card netlist": what the bytes say, and, from "Turned back, by operation", when they are refused.
 use Prim.Native.Nat.{ℕ, zero, suc, _+_, _*_}
-use mathlib.Core.Bool.{Bool, cond, not, _||_}
+use mathlib.Core.Bool.{not}
 use mathlib.Core.List.{List}
 use lib.Dec.{eqb, leb, ltb}
 use lib.ListN.{length}
 use Rattle.kung.specs.Rule.{Kind, kindOf}
 use Rattle.circuit.specs.Circuit.{Card}
-use Rattle.words.specs.Words.{byteAt, wordAt, wordsAt, marked, outside}
+use Rattle.words.specs.Words.{wordAt, wordsAt, marked, outside}
 use Rattle.words.specs.Refusal.{refuse}
+use Rattle.records.specs.Records.{kindAt, countAt, pastRecord, noKind, leastPins, mostPins}
 use Rattle.netlist.specs.declared.Shape.{Shape}
 use Rattle.netlist.specs.declared.Checked.{Checked}
 use Rattle.netlist.specs.declared.Checked.the-variants.{Accepted, Refused}
@@ -22,20 +23,6 @@ gatesOf s = wordAt s 7
 
 abbrev pub outputsOf : List ℕ → ℕ
 outputsOf s = wordAt s 9
-
--- "A record is a kind byte, a pin-count byte and a 16-bit signal number for each pin."
-abbrev pub kindAt : List ℕ → ℕ → ℕ
-kindAt s at = byteAt s at
-
-abbrev pub countAt : List ℕ → ℕ → ℕ
-countAt s at = byteAt s (at + 1)
-
-abbrev pub pinAt : List ℕ → ℕ → (k : ℕ) → ℕ
-pinAt s at k = wordAt s (at + 2 + 2 * k)
-
--- the place after the record at a place
-abbrev pub pastRecord : List ℕ → ℕ → ℕ
-pastRecord s at = at + 2 + 2 * countAt s at
 
 -- the place of gate g's record
 unfoldable pub placeOf : List ℕ → ℕ → ℕ
@@ -93,16 +80,6 @@ unfoldable pub wordsBelow : (n : ℕ) → List ℕ → (at bound number : ℕ) �
 wordsBelow zero s at bound number next = next
 wordsBelow (suc n) s at bound number next = refuse Refused (leb bound (wordAt s at)) number at (wordsBelow n s (at + 2) bound number next)
 
--- "Kinds 1 and 2 take one pin, 3 to 6 take two to eight."
-unfoldable pub noKind : (kind : ℕ) → Bool
-noKind kind = outside 1 6 kind
-
-unfoldable pub leastPins : (kind : ℕ) → ℕ
-leastPins kind = cond (leb kind 2) 1 2
-
-unfoldable pub mostPins : (kind : ℕ) → ℕ
-mostPins kind = cond (leb kind 2) 1 8
-
 -- "Per record: under two bytes left 5 (record start); kind 6 (its byte); pin count 7 (its byte); pins cut off 5 (record start); pin not
 -- below its gate 8 (that pin)"
 unfoldable pub recordAt : List ℕ → (signal at : ℕ) → Checked → Checked
@@ -113,10 +90,6 @@ recordAt s signal at next =
     (refuse Refused (ltb (length s) (pastRecord s at)) 5 at
     (wordsBelow (countAt s at) s (at + 2) signal 8
     next))))
-
--- no kind, or one that does not take so many pins
-unfoldable pub unfit : (kind count : ℕ) → Bool
-unfit kind count = noKind kind || outside (leastPins kind) (mostPins kind) count
 
 -- the n records from gate g's on; "the first bad pin ends the reading of all records"
 unfoldable pub recordsFrom : (n g : ℕ) → List ℕ → Checked → Checked

@@ -7,8 +7,8 @@ use mathlib.Core.List.{List, [], _∷_, _++_}
 use lib.Dec.{eqb, leb, ltb}
 use lib.ListN.{length}
 use Rattle.words.specs.Words.{wordAt, marked, outside}
-use Rattle.netlist.specs.Netlist.{inputsOf, gatesOf, outputsOf, kindAt, countAt, pinAt, pastRecord, placeOf, entriesAt, outputAt, outputsEnd}
-use Rattle.netlist.specs.Netlist.{noKind, leastPins, mostPins}
+use Rattle.records.specs.Records.{kindAt, countAt, pinAt, pastRecord, noKind, leastPins, mostPins}
+use Rattle.netlist.specs.Netlist.{inputsOf, gatesOf, outputsOf, placeOf, entriesAt, outputAt, outputsEnd}
 
 -- "A record is a kind byte, a pin-count byte and a 16-bit signal number for each pin. Kinds: 1 NOT, 2 BUFFER, 3 AND, 4 OR, 5 NAND, 6 NOR.
 -- Kinds 1 and 2 take one pin, 3 to 6 take two to eight. A pin names a signal number below its own gate's."

@@ -4,11 +4,11 @@ ghost use Prim.Native.Nat.{_+_, _*_, _≤_};
 ghost use lib.ListN.{length};
 ghost use Rattle.words.specs.Words.{wordsAt};
 ghost use Rattle.rows.specs.Making.{putAt};
-ghost use Rattle.netlist.specs.Netlist.{inputsOf, gatesOf, pinTotal, entriesAt, unfit};
+ghost use Rattle.netlist.specs.Netlist.{inputsOf, gatesOf, pinTotal, entriesAt};
 ghost use Rattle.netlist.specs.Netlist.{counts, outputs, accepted, body, bodyWithin, checked};
-ghost use Rattle.netlist.specs.Meaning.{meaningOf, meaningWord, meaningTable};
-ghost use Rattle.netlist.specs.Reading.{headAt, fitAt};
 ghost use Rattle.netlist.specs.Decoded.{rowsFrom, withOutputs, decodedBy, decoded};
+use records::Fit;
+use records::Head;
 use words::is_outside;
 use words::word_at;
 use words::word_in;
@@ -26,73 +26,6 @@ pub struct Shape {
 pub enum Checked {
     Accepted(Shape),
     Refused(u8, usize),
-}
-
-// What a kind byte means: how many pins it takes, its operation (0 AND, 1 OR) and whether it inverts. A byte that is no kind has limits
-// that no pin count meets.
-pub struct Meaning {
-    pub least: usize,
-    pub most: usize,
-    pub operation: u8,
-    pub inverts: bool,
-}
-
-// Kinds are told from other bytes first: then no jump depends on which kind it is.
-pub fn meaning_of(kind: u8) -> Meaning
-    ensures { λ r. ⌜ r ≡ meaningOf kind ⌝ }
-{
-    match kind {
-        1..=6 => match kind {
-            1..=2 => Meaning {
-                least: 1,
-                most: 1,
-                operation: 0,
-                inverts: kind == 1,
-            },
-            _ => Meaning {
-                least: 2,
-                most: 8,
-                operation: (kind + 1) % 2,
-                inverts: 4 < kind,
-            },
-        },
-        _ => Meaning {
-            least: 1,
-            most: 0,
-            operation: 0,
-            inverts: false,
-        },
-    }
-}
-
-// Whether a byte is no kind, or a kind that does not take so many pins.
-pub fn is_unfit(kind: u8, count: usize) -> bool
-    ensures { λ r. ⌜ r ≡ unfit kind count ⌝ }
-{
-    let meaning = meaning_of(kind);
-    is_outside(meaning.least, meaning.most, count)
-}
-
-// A meaning in one word.
-fn meaning_word(meaning: Meaning) -> u16
-    requires { ⌜ (meaning .least ≤ 2) × (meaning .most ≤ 8) × (meaning .operation ≤ 1) ⌝ }
-    ensures { λ r. ⌜ r ≡ meaningWord meaning ⌝ }
-{
-    meaning.operation as u16
-        + 2 * (meaning.inverts as u16)
-        + 16 * (meaning.least as u16)
-        + 256 * (meaning.most as u16)
-}
-
-// The words of the bytes 0 to 7, made once for a check: in its loop no jump depends on a kind.
-fn meaning_table() -> [u16; 8]
-    ensures { λ r. ⌜ r ≡ meaningTable ⌝ }
-{
-    let mut table = [0u16; 8];
-    for kind in 0..8 {
-        table[kind] = meaning_word(meaning_of(kind as u8));
-    }
-    table
 }
 
 // Writes the words from a place of the bytes on, where they have room.
@@ -141,67 +74,6 @@ fn check_outputs(s: &[u8], rows: &mut [u16], pins: usize, at: usize) -> Checked
     }
 }
 
-// A record up to its pins: how many there are and its gate's word, or the number and place of a refusal.
-enum Head {
-    Pins(usize, u16),
-    Refused(u8, usize),
-}
-
-fn head_at(s: &[u8], meanings: &[u16; 8], at: usize) -> Head
-    requires { ⌜ (now meanings ≡ meaningTable) × (at ≤ length (now s) + 11) ⌝ }
-    ensures { λ r. ⌜ r ≡ headAt (now (s .entry)) at ⌝ }
-{
-    if s.len() < at + 2 {
-        return Head::Refused(5, at);
-    }
-    let second = at + 1;
-    let count = s[second] as usize;
-    let kind = s[at] as usize;
-    if 7 < kind {
-        return Head::Refused(6, at);
-    }
-    let meaning = meanings[kind];
-    if meaning < 256 {
-        return Head::Refused(6, at);
-    }
-    if is_outside(
-        (meaning / 16 % 16) as usize,
-        (meaning / 256) as usize,
-        count,
-    ) {
-        return Head::Refused(7, second);
-    }
-    if s.len() < at + 2 + 2 * count {
-        return Head::Refused(5, at);
-    }
-    Head::Pins(count, meaning % 4 + 4 * (count as u16))
-}
-
-// A record behind whose head eight words have room, where its head is not refused: the number of its pins and its gate's word.
-enum Fit {
-    Pins(usize, u16),
-    Other,
-}
-
-fn fit_at(s: &[u8], meanings: &[u16; 8], at: usize) -> Fit
-    requires { ⌜ (now meanings ≡ meaningTable) × (at ≤ length (now s) + 11) ⌝ }
-    ensures { λ r. ⌜ r ≡ fitAt (now (s .entry)) at ⌝ }
-{
-    if s.len() < at + 18 {
-        return Fit::Other;
-    }
-    let count = s[at + 1] as usize;
-    let kind = s[at] as usize;
-    if 7 < kind {
-        return Fit::Other;
-    }
-    let meaning = meanings[kind] as usize;
-    if is_outside(meaning / 16 % 16, meaning / 256, count) {
-        return Fit::Other;
-    }
-    Fit::Pins(count, (meaning % 4 + 4 * count) as u16)
-}
-
 // The check from the records on. A record's pins are looked at together where eight have room, and one after the other where they have not or where
 // one is refused.
 fn check_records(s: &[u8], rows: &mut [u16]) -> Checked
@@ -212,7 +84,7 @@ fn check_records(s: &[u8], rows: &mut [u16]) -> Checked
     let inputs = word_at(s, 5) as usize;
     let gates = word_at(s, 7) as usize;
     let window = rows::WINDOW;
-    let meanings = meaning_table();
+    let meanings = records::meaning_table();
     let mut gate: usize = 0;
     let mut at: usize = 11;
     let mut pins: usize = 0;
@@ -221,7 +93,7 @@ fn check_records(s: &[u8], rows: &mut [u16]) -> Checked
             break 'records check_outputs(s, rows, pins, at);
         }
         let signal = inputs + gate;
-        match fit_at(s, &meanings, at) {
+        match records::fit_at(s, &meanings, at) {
             Fit::Other => {}
             Fit::Pins(count, word) => {
                 let own = rows::own_in(s, &window, at + 2, count);
@@ -235,7 +107,7 @@ fn check_records(s: &[u8], rows: &mut [u16]) -> Checked
                 }
             }
         }
-        match head_at(s, &meanings, at) {
+        match records::head_at(s, &meanings, at) {
             Head::Refused(number, place) => break 'records Checked::Refused(number, place),
             Head::Pins(count, word) => {
                 let mut k: usize = 0;

@@ -7,6 +7,7 @@ use Rattle.kung.specs.Rule.{each, some, andAll, orAll, Kind, AND, OR, NAND, NOR
 use Rattle.circuit.specs.Circuit.{sources, values}
 use Rattle.words.specs.Words.{wordAt, longAt, wordsAt, marked, outside, tieFrom, tieOf}
 use Rattle.words.specs.Refusal.{refuse}
+use Rattle.records.specs.Records as records
 use Rattle.netlist.specs.Netlist as netlist
 use Rattle.changes.specs.declared.Listed.the-variants.{Accepted}
 use Rattle.changes.specs.Changes.{bitAt, inputClassAt, sourcesOf}
@@ -47,5 +48,5 @@ mux-tie = refl
 
 mux-accepted : list.listChecked muxNetlist muxList
     ≡ Accepted (record { shape = record { inputs = 3; gates = 4; outputs = 1; pins = 7; entries = 33 }; changes = 1; width = 1 })
-unfolding list.listChecked list.against list.afterNetlist list.sparesFrom list.spareAt list.spareBits netlist.checked netlist.checkedWithin netlist.bodyWithin netlist.body netlist.accepted netlist.shapeOf netlist.outputs netlist.counts netlist.opening netlist.recordsFrom netlist.recordAt netlist.mostPins netlist.leastPins netlist.noKind netlist.wordsBelow refuse netlist.pinsBelow netlist.placeOf wordAt longAt marked outside tieOf tieFrom
+unfolding list.listChecked list.against list.afterNetlist list.sparesFrom list.spareAt list.spareBits netlist.checked netlist.checkedWithin netlist.bodyWithin netlist.body netlist.accepted netlist.shapeOf netlist.outputs netlist.counts netlist.opening netlist.recordsFrom netlist.recordAt records.mostPins records.leastPins records.noKind netlist.wordsBelow refuse netlist.pinsBelow netlist.placeOf wordAt longAt marked outside tieOf tieFrom
 mux-accepted = refl

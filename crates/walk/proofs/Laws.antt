@@ -8,7 +8,7 @@ use borrow.Author.Tests.{le-leb, lt-leb, leb-true, leb-false}
 use lib.Dec.{leb}
 use lib.ListN.{length}
 use Rattle.words.proofs.Laws.{inside}
-use Rattle.netlist.specs.Netlist.{kindAt, countAt, pastRecord, noKind, leastPins, mostPins, unfit}
+use Rattle.records.specs.Records.{kindAt, countAt, pastRecord, noKind, leastPins, mostPins, unfit}
 use Rattle.netlist.specs.Formed.{RecordFormed}
 use Rattle.walk.specs.declared.Found.the-variants.{Whole, Nothing}
 use Rattle.walk.specs.Walk.{whole, givesNone, foundAt}

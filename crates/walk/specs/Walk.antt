@@ -6,9 +6,10 @@ use mathlib.Core.List.{List, []}
 use lib.Dec.{leb}
 use lib.ListN.{length, take, drop}
 use denote.Ref.{RefT, now}
+use Rattle.records.specs.Records.{kindAt, countAt, pastRecord, unfit}
 use Rattle.netlist.specs.declared.Checked.{Checked}
 use Rattle.netlist.specs.declared.Checked.the-variants.{Accepted, Refused}
-use Rattle.netlist.specs.Netlist.{gatesOf, kindAt, countAt, pastRecord, placeOf, unfit, checked}
+use Rattle.netlist.specs.Netlist.{gatesOf, placeOf, checked}
 use Rattle.walk.specs.declared.Walk.{Walk}
 use Rattle.walk.specs.declared.Opened.{Opened}
 use Rattle.walk.specs.declared.Reached.{Reached}

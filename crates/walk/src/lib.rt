@@ -40,7 +40,7 @@ pub fn record_at(netlist: &[u8], number: usize, place: usize, count: usize) -> F
         return Found::Nothing;
     }
     let pins = words::byte_at(netlist, place + 1) as usize;
-    if netlist::is_unfit(netlist[place], pins) {
+    if records::is_unfit(netlist[place], pins) {
         return Found::Nothing;
     }
     let size = 2 + 2 * pins;

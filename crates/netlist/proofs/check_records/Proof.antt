@@ -11,14 +11,15 @@ use lib.ListN.{length}
 use Rattle.kung.specs.Rule.{each}
 use Rattle.kung.specs.Tables.{tab}
 use Rattle.rows.specs.Making.{ones, putAt}
+use Rattle.records.specs.declared.Head.the-variants.{Pins}
+use Rattle.records.specs.Reading.{headAt}
+use Rattle.records.proofs.Heads.{HeadTold, head-told, fit-head}
 use Rattle.netlist.specs.declared.Checked.{Checked}
 use Rattle.netlist.specs.declared.Checked.the-variants.{Refused}
-use Rattle.netlist.specs.declared.Head.the-variants.{Pins}
 use Rattle.netlist.specs.Netlist.{inputsOf, gatesOf, recordAt, wordsBelow, body}
-use Rattle.netlist.specs.Reading.{headAt}
 use Rattle.netlist.specs.Decoded.{rowsFrom, withOutputs}
 use Rattle.netlist.proofs.Refusals.{words-stop, words-more, words-end}
-use Rattle.netlist.proofs.Heads.{HeadTold, head-told, fit-head, record-refused, record-pins}
+use Rattle.netlist.proofs.Heads.{record-refused, record-pins}
 use Rattle.netlist.proofs.Passing.{fits-not}
 use Rattle.netlist.proofs.Keeping.{kept-refused}
 use Rattle.netlist.proofs.Together.{all-passed}

@@ -4,7 +4,7 @@ use mathlib.Core.Bool.{Bool, true, false}
 use native.Mathlib.Omega.{arith}
 use borrow.Author.Needs.{needs}
 use denote.Ref.{now}
-use Rattle.netlist.specs.Netlist.{kindAt, countAt, unfit}
+use Rattle.records.specs.Records.{kindAt, countAt, unfit}
 use Rattle.walk.specs.declared.Found.the-variants.{Whole}
 use Rattle.walk.proofs.Laws.{whole-cut, whole-refused, whole-is, found-none, found-no-record, found-record}
 use Rattle.walk.proofs.record_at.Statement.{statement}

@@ -4,11 +4,11 @@ use native.Mathlib.Omega.{arith}
 use mathlib.Core.Path.{_≡_, refl, _∙_, ap}
 use lib.ListN.{length, length-set}
 use Rattle.rows.proofs.Making.{Filled, filled-more, filled-all}
-use Rattle.netlist.specs.Meaning.{meaningOf, meaningWord, meaningTable}
-use Rattle.netlist.proofs.Meanings.{meaning-low}
+use Rattle.records.specs.Meaning.{meaningOf, meaningWord, meaningTable}
+use Rattle.records.proofs.Meanings.{meaning-low}
 use borrow.Author.Needs.{needs}
-use Rattle.netlist.proofs.meaning_table.Statement.{statement}
-use Rattle.netlist.proofs.meaning_table.Tie as tie
+use Rattle.records.proofs.meaning_table.Statement.{statement}
+use Rattle.records.proofs.meaning_table.Tie as tie
 
 abbrev Inv-loop : tie.InvT-loop
 Inv-loop table₀ kind₀ table kind = (kind ≤ 8) × (length table ≡ 8) × Filled (λ k. meaningWord (meaningOf k)) table kind

@@ -8,17 +8,17 @@ use Rattle.kung.specs.Rule.{kindOf}
 use Rattle.words.specs.Words.{outside}
 use Rattle.words.specs.Refusal.{refuse}
 use Rattle.rows.specs.Rows.{wordFor}
-use Rattle.netlist.specs.Netlist.{kindAt, countAt, pastRecord, noKind, leastPins, mostPins, unfit}
-use Rattle.netlist.specs.declared.Head.{Head}
-use Rattle.netlist.specs.declared.Head.the-variants.{Pins, Refused}
-use Rattle.netlist.specs.declared.Fit.{Fit}
-use Rattle.netlist.specs.declared.Fit.the-variants as fit
+use Rattle.records.specs.Records.{kindAt, countAt, pastRecord, noKind, leastPins, mostPins, unfit}
+use Rattle.records.specs.declared.Head.{Head}
+use Rattle.records.specs.declared.Head.the-variants.{Pins, Refused}
+use Rattle.records.specs.declared.Fit.{Fit}
+use Rattle.records.specs.declared.Fit.the-variants as fit
 
 -- the word of the gate whose record stands at a place
 unfoldable pub wordOf : List ℕ → (at : ℕ) → ℕ
 wordOf s at = wordFor (kindOf (kindAt s at)) (countAt s at)
 
--- a record up to its pins, with its gate's word: `recordAt` without them
+-- a record up to its pins, with its gate's word: `recordAt` of `netlist` without them
 unfoldable pub headAt : List ℕ → (at : ℕ) → Head
 headAt s at =
     refuse Refused (ltb (length s) (at + 2)) 5 at

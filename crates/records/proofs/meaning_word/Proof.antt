@@ -3,10 +3,10 @@ use Prim.Native.Nat.{_≤_}
 use native.Mathlib.Omega.{arith}
 use mir.Val.{boolByte}
 use Rattle.rows.proofs.Making.{byte-low}
-use Rattle.netlist.specs.Meaning.{meaningWord}
+use Rattle.records.specs.Meaning.{meaningWord}
 use borrow.Author.Needs.{needs}
-use Rattle.netlist.proofs.meaning_word.Statement.{statement}
-use Rattle.netlist.proofs.meaning_word.Tie as tie
+use Rattle.records.proofs.meaning_word.Statement.{statement}
+use Rattle.records.proofs.meaning_word.Tie as tie
 
 inverted : (c : tie.After-struct-known) → boolByte (c .before .args .meaning .inverts) ≤ 1
 inverted c = byte-low (c .before .args .meaning .inverts)

@@ -6,8 +6,8 @@ use Rattle.kung.specs.Rule.{kindOf}
 use Rattle.kung.specs.Operation.{opOf, inverts, opCode}
 use Rattle.kung.specs.Sets.{bit}
 use Rattle.kung.specs.Tables.{tab}
-use Rattle.netlist.specs.Netlist.{noKind, leastPins, mostPins}
-use Rattle.netlist.specs.declared.Meaning.{Meaning}
+use Rattle.records.specs.Records.{noKind, leastPins, mostPins}
+use Rattle.records.specs.declared.Meaning.{Meaning}
 
 -- the pin limits, which no count meets where the byte is no kind; the operation as a number and the inversion, where another byte is read
 -- as BUFFER

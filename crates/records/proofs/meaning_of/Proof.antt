@@ -2,9 +2,9 @@
 use native.Mathlib.Omega.{arith}
 use mathlib.Core.Logic.{⊎-elim}
 use borrow.Author.Needs.{needs}
-use Rattle.netlist.proofs.Meanings.{meaning-one, meaning-many, meaning-zero, meaning-above}
-use Rattle.netlist.proofs.meaning_of.Statement.{statement}
-use Rattle.netlist.proofs.meaning_of.Tie as tie
+use Rattle.records.proofs.Meanings.{meaning-one, meaning-many, meaning-zero, meaning-above}
+use Rattle.records.proofs.meaning_of.Statement.{statement}
+use Rattle.records.proofs.meaning_of.Tie as tie
 
 add-t7 : tie.Need-add-t7
 add-t7 c = search needs

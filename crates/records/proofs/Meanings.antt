@@ -15,8 +15,8 @@ use Rattle.kung.proofs.Listed.{getD-tab, agree}
 use Rattle.words.specs.Words.{outside}
 use Rattle.words.proofs.Laws.{outside-below, outside-above}
 use Rattle.rows.specs.Rows.{wordFor}
-use Rattle.netlist.specs.Netlist.{noKind, leastPins, mostPins, unfit}
-use Rattle.netlist.specs.Meaning.{meaningOf, meaningWord, meaningTable}
+use Rattle.records.specs.Records.{noKind, leastPins, mostPins, unfit}
+use Rattle.records.specs.Meaning.{meaningOf, meaningWord, meaningTable}
 
 -- the ranges of the code's match
 pub meaning-one : (kind : ℕ) → 1 ≤ kind → kind < 3 → record { least = 1; most = 1; operation = 0; inverts = eqb kind 1 } ≡ meaningOf kind
@@ -58,6 +58,23 @@ kind-unfit kind count e = rw e
 pub no-kind : (kind : ℕ) → 7 < kind → noKind kind ≡ true
 unfolding noKind
 no-kind kind h = outside-above 1 6 kind (omega arith) ∙ lt-ltb 6 kind (omega arith)
+
+-- a kind takes one to eight pins
+pub least-some : (kind : ℕ) → 1 ≤ leastPins kind
+unfolding leastPins
+least-some kind = go (leb kind 2)
+  where
+    go : (b : Bool) → 1 ≤ cond b 1 2
+    go true = omega arith
+    go false = omega arith
+
+pub most-eight : (kind : ℕ) → mostPins kind ≤ 8
+unfolding mostPins
+most-eight kind = go (leb kind 2)
+  where
+    go : (b : Bool) → cond b 1 8 ≤ 8
+    go true = omega arith
+    go false = omega arith
 
 -- the limits alone tell whether a pin count is fit
 no-count : (count : ℕ) → outside 1 0 count ≡ true

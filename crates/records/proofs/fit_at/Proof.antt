@@ -5,15 +5,15 @@ use mathlib.Core.Path.{_≡_, sym, _∙_, ap}
 use mathlib.Core.List.{List}
 use lib.ListN.{getD}
 use Rattle.words.specs.Words.{outside}
-use Rattle.netlist.specs.declared.Fit.the-variants.{Pins}
-use Rattle.netlist.specs.Netlist.{kindAt, countAt, unfit}
-use Rattle.netlist.specs.Meaning.{meaningTable}
-use Rattle.netlist.specs.Reading.{wordOf}
-use Rattle.netlist.proofs.Meanings.{no-kind, kind-unfit, word-unfit, word-gate, word-low}
-use Rattle.netlist.proofs.Heads.{fit-short, fit-none, fit-pins}
+use Rattle.records.specs.declared.Fit.the-variants.{Pins}
+use Rattle.records.specs.Records.{kindAt, countAt, unfit}
+use Rattle.records.specs.Meaning.{meaningTable}
+use Rattle.records.specs.Reading.{wordOf}
+use Rattle.records.proofs.Meanings.{no-kind, kind-unfit, word-unfit, word-gate, word-low}
+use Rattle.records.proofs.Heads.{fit-short, fit-none, fit-pins}
 use borrow.Author.Needs.{needs}
-use Rattle.netlist.proofs.fit_at.Statement.{statement}
-use Rattle.netlist.proofs.fit_at.Tie as tie
+use Rattle.records.proofs.fit_at.Statement.{statement}
+use Rattle.records.proofs.fit_at.Tie as tie
 
 -- the record's place and its two bytes
 abbrev start : tie.After-shared-slice-known3 → tie.Start

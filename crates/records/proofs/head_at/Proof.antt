@@ -6,15 +6,15 @@ use mathlib.Core.Bool.{false}
 use mathlib.Core.List.{List}
 use lib.ListN.{length, getD}
 use Rattle.words.specs.Words.{outside}
-use Rattle.netlist.specs.declared.Head.the-variants.{Pins}
-use Rattle.netlist.specs.Netlist.{kindAt, countAt, noKind, leastPins, mostPins}
-use Rattle.netlist.specs.Meaning.{meaningTable}
-use Rattle.netlist.specs.Reading.{wordOf}
-use Rattle.netlist.proofs.Meanings.{no-kind, word-none, word-some, word-limits, word-gate, word-low}
-use Rattle.netlist.proofs.Heads.{head-bare, head-kind, head-count, head-cut, head-pins}
+use Rattle.records.specs.declared.Head.the-variants.{Pins}
+use Rattle.records.specs.Records.{kindAt, countAt, noKind, leastPins, mostPins}
+use Rattle.records.specs.Meaning.{meaningTable}
+use Rattle.records.specs.Reading.{wordOf}
+use Rattle.records.proofs.Meanings.{no-kind, word-none, word-some, word-limits, word-gate, word-low}
+use Rattle.records.proofs.Heads.{head-bare, head-kind, head-count, head-cut, head-pins}
 use borrow.Author.Needs.{needs}
-use Rattle.netlist.proofs.head_at.Statement.{statement}
-use Rattle.netlist.proofs.head_at.Tie as tie
+use Rattle.records.proofs.head_at.Statement.{statement}
+use Rattle.records.proofs.head_at.Tie as tie
 
 -- the record's place and its two bytes
 abbrev start : tie.After-shared-slice-known3 → tie.Start

@@ -2,10 +2,10 @@
 use mathlib.Core.Path.{_∙_, ap}
 use borrow.Author.Needs.{needs}
 use Rattle.words.specs.Words.{outside}
-use Rattle.netlist.specs.declared.Meaning.{Meaning}
-use Rattle.netlist.proofs.Meanings.{meaning-unfit}
-use Rattle.netlist.proofs.is_unfit.Statement.{statement}
-use Rattle.netlist.proofs.is_unfit.Tie as tie
+use Rattle.records.specs.declared.Meaning.{Meaning}
+use Rattle.records.proofs.Meanings.{meaning-unfit}
+use Rattle.records.proofs.is_unfit.Statement.{statement}
+use Rattle.records.proofs.is_unfit.Tie as tie
 
 meaning-of-requires : tie.Need-meaning-of-requires
 meaning-of-requires c κs = search needs
