@@ -19,12 +19,12 @@ pub fn with_class(set: u8, class: u8) -> u8
     set | (1 << (class % 8))
 }
 
-// The set, or the set of its classes' inverses.
+// The set, or the set of its classes' inverses. Without a choice: which gates invert is no pattern that a processor could foresee.
 pub fn swapped(inverted: bool, set: u8) -> u8
     ensures { λ r. ⌜ r ≡ swapIf inverted set ⌝ }
 {
-    let inverses = ((set & 85) << 1) | ((set >> 1) & 85);
-    if inverted { inverses } else { set }
+    let places = inverted as u8;
+    ((set & 85) << places) | ((set & 170) >> places)
 }
 
 // The code of the set's only class, or 8.

@@ -1,27 +1,32 @@
 -- `kung::swapped` meets its contract, by the list of its 256 values. Assumes nothing.
-use mathlib.Core.Path.{_∙_, refl, sym, ap}
-use Prim.Native.Nat.{_*_, _/_, _%_}
-use mathlib.Core.Bool.{true}
+use mathlib.Core.Path.{_≡_, refl}
+use mathlib.Core.Bool.{Bool, true, false}
+use Prim.Native.Nat.{ℕ, _*_, _/_, _%_, _^_, _<_}
 use native.Mathlib.Omega.{arith}
 use lib.Bits.{bitOr, bitAnd}
+use mir.Val.{boolByte}
 use Rattle.kung.specs.Sets.{setOf, has}
 use Rattle.kung.specs.Members.{swapIf}
 use Rattle.kung.specs.Tables.{tab}
 use Rattle.kung.proofs.Listed.{agree}
-use Rattle.kung.proofs.Unions.{set-of-has}
 use Rattle.kung.proofs.swapped.Statement.{statement}
 use Rattle.kung.proofs.swapped.Tie as tie
 
-returns : tie.Need-returns
-unfolding swapIf setOf has tab
-returns c =
-    agree (λ m. bitOr (bitAnd m 85 * 2 % 256) (bitAnd (m / 2) 85)) (swapIf true) 256 refl (c .before .args .set) (omega arith)
-    ∙ ap (λ b. swapIf b (c .before .args .set)) (sym (c .if1 .taken))
+shifted : Bool → ℕ → ℕ
+shifted b m = bitOr (bitAnd m 85 * 2 ^ boolByte b % 256) (bitAnd m 170 / 2 ^ boolByte b)
 
-returns-2 : tie.Need-returns-2
-unfolding swapIf
-returns-2 c =
-    sym (set-of-has (c .before .args .set) (omega arith)) ∙ ap (λ b. swapIf b (c .before .args .set)) (sym (c .if1 .left))
+swaps : (b : Bool) (m : ℕ) → m < 256 → shifted b m ≡ swapIf b m
+unfolding shifted swapIf setOf has tab
+swaps true m below = agree (shifted true) (swapIf true) 256 refl m below
+swaps false m below = agree (shifted false) (swapIf false) 256 refl m below
+
+low : (b : Bool) → boolByte b < 8
+low true = omega arith
+low false = omega arith
+
+returns : tie.Need-returns
+unfolding shifted
+returns c = swaps (c .args .inverted) (c .args .set) (omega arith)
 
 pub swapped-spec : {M : Type 1} → statement M
-swapped-spec = tie.close (tie.spec returns returns-2)
+swapped-spec = tie.close (tie.spec (λ c. tt) (λ c. low (c .args .inverted)) (λ c. low (c .args .inverted)) returns)
