@@ -25,10 +25,10 @@ use Rattle.search.specs.Search.{search}
 use Rattle.search.specs.Pins.{sumBelow, pinsIn}
 use Rattle.search.proofs.Writes.{closed-all}
 use Rattle.search.proofs.Counts.{search-pins}
+use Rattle.cells.proofs.Codes.{code-small}
 use Rattle.visit.specs.Source.{sourceFrom}
 use Rattle.visit.specs.Lent.{inputsKnown}
 use Rattle.visit.specs.Cells.{Afresh}
-use Rattle.visit.proofs.Codes.{code-small}
 use Rattle.visit.proofs.Sources.{source-given, source-gate}
 
 -- Document 01: "Every pin is taken at most once." So a search takes at most P pins.

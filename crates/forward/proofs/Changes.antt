@@ -37,7 +37,7 @@ use Rattle.visit.specs.Source.{signalOf, sourceFrom}
 use Rattle.visit.specs.Cells.{Afresh}
 use Rattle.core.specs.Outputs.{verdictByte, searchFrom, byteFrom, sumFrom}
 use Rattle.core.specs.Lent.{OutputsReady}
-use Rattle.visit.proofs.Codes.{code-small}
+use Rattle.cells.proofs.Codes.{code-small}
 use Rattle.core.proofs.Entry.{output-is, outputs-ready}
 use Rattle.simulate.proofs.Laws.{filled-codes, filled-after}
 use Rattle.simulate.specs.Full.{classIn, codes}

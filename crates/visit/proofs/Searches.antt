@@ -13,16 +13,19 @@ use Rattle.rows.specs.Rows.{rowKind, invertsIn, wordIn}
 use Rattle.search.specs.Search.{byteOf, fresh, total, visitedOf, nextOf, cellAt, cellOf, nobody, Outcome, stopped, known, unfinished, driverOf, Ended, takePin, visit, judged, verdictOf, visited, answerOf, endFrom, search}
 use Rattle.search.proofs.Laws.{fresh-at, total-fresh}
 use Rattle.search.proofs.Same.{search-any}
+use Rattle.cells.specs.Codes.{waitingOf, endingOf}
+use Rattle.cells.specs.Cells.{knownOf, knownIn}
+use Rattle.cells.proofs.Codes.{code-small}
+use Rattle.cells.proofs.Cells.{cell-new, fresh-known-of}
 use Rattle.visit.specs.declared.Verdict.{Verdict}
 use Rattle.visit.specs.declared.Found.{Found}
 use Rattle.visit.specs.Source.{sourceFrom}
 use Rattle.visit.specs.Found.{verdictCode, foundOf}
-use Rattle.visit.specs.Codes.{waitingOf, endingOf, verdictFrom}
-use Rattle.visit.specs.Cells.{cellsIn, knownOf, knownIn, Marks, Afresh}
+use Rattle.visit.specs.Codes.{verdictFrom}
+use Rattle.visit.specs.Cells.{cellsIn, Marks, Afresh}
 use Rattle.visit.specs.Visits.{endedOf, tallyOf, Takes}
-use Rattle.visit.proofs.Codes.{code-small}
 use Rattle.visit.proofs.Sources.{source-given, source-gate}
-use Rattle.visit.proofs.Cells.{cell-new, cells-at, cells-length, fresh-known-of, fresh-marked}
+use Rattle.visit.proofs.Cells.{cells-at, cells-length, fresh-marked}
 
 -- an answer without a visit
 pub search-given : (rows known : List ℕ) (w s : ℕ) → getD known s 0 < 8 → (verdict : Verdict) → verdict ≡ verdictCode (judged w (ofCode (getD known s 0)))

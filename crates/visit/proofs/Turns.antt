@@ -16,14 +16,16 @@ use Rattle.rows.specs.Rows.{countIn, gateIn, invertsIn, wordIn, rowKind, rowPin
 use Rattle.search.specs.Search.{kept, byteOf, nextOf, visitedOf, put, possibleOf, only, gatesVisited, pinsTaken}
 use Rattle.search.proofs.Laws.{nextOf-byteOf}
 use Rattle.search.proofs.Counts.{visited-kept}
-use Rattle.visit.specs.Codes.{codeOr, begunFrom, markOf}
-use Rattle.visit.specs.Cells.{cellIn, cellsIn, knownOf, knownIn, toldIn, Marked, Marks}
+use Rattle.cells.specs.Codes.{codeOr, begunFrom, markOf}
+use Rattle.cells.specs.Cells.{cellIn, knownOf, knownIn, toldIn}
+use Rattle.cells.proofs.Codes.{code-small, code-ofCode}
+use Rattle.cells.proofs.Checks.{only-own}
+use Rattle.cells.proofs.Cells.{cell-new, cell-open, known-set, same-code, mark-cell, mark-large, untold-between, begun-from}
+use Rattle.visit.specs.Cells.{cellsIn, Marked, Marks}
 use Rattle.visit.specs.Visits.{tallyOf, Lends, Takes}
-use Rattle.visit.proofs.Codes.{code-small, code-ofCode}
 use Rattle.visit.proofs.Sources.{inverts-is}
-use Rattle.visit.proofs.Checks.{only-own}
 use Rattle.visit.proofs.Totals.{pins-few, tally-put}
-use Rattle.visit.proofs.Cells.{cell-new, cell-open, cells-length, cells-at, cells-small, cells-set, known-set, same-code, mark-cell, mark-large, mark-marked, untold-between, begun-from}
+use Rattle.visit.proofs.Cells.{cells-length, cells-at, cells-small, cells-set, mark-marked}
 use Rattle.visit.proofs.Visits.{Ends, Arrived, arrived, counted-set}
 
 set-small : (bytes : List ℕ) (s b t : ℕ) → b < 256 → getD bytes t 0 < 256 → getD (set bytes s b) t 0 < 256

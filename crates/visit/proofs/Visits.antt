@@ -19,14 +19,17 @@ use Rattle.rows.specs.Rows.{countIn, gateIn, invertsIn, wordIn, rowKind, rowPin
 use Rattle.search.specs.Search.{Cell, kept, cellAt, put, possibleOf, pinsLeft, only, Waiting, nobody, waits, Outcome, stopped, known, unfinished, checks, Driver, told, behind, toldOr, driverOf, Ended, fetch, react, takePin, takePins, visit}
 use Rattle.search.proofs.Steps.{left-is, visit-gate, pins-end, pins-step}
 use Rattle.search.proofs.Same.{take-put}
+use Rattle.cells.specs.Codes.{waitingOf, endingOf, checkOf, begunFrom}
+use Rattle.cells.specs.Cells.{cellIn, knownIn, toldIn}
+use Rattle.cells.proofs.Codes.{code-small}
+use Rattle.cells.proofs.Checks.{joins, ended, ended-by, goes-on, stops}
+use Rattle.cells.proofs.Cells.{cell-new, cell-open, known-small, same-code, told-class, untold-between, untold-searched}
 use Rattle.visit.specs.Source.{signalOf, sourceFrom}
-use Rattle.visit.specs.Codes.{waitingOf, endingOf, checkOf, toldOf, begunFrom}
+use Rattle.visit.specs.Codes.{toldOf}
 use Rattle.visit.specs.Visits.{endedOf, Lends, Takes}
-use Rattle.visit.specs.Cells.{cellIn, cellsIn, knownIn, toldIn, Marked}
-use Rattle.visit.proofs.Codes.{code-small}
+use Rattle.visit.specs.Cells.{cellsIn, Marked}
 use Rattle.visit.proofs.Sources.{source-gate, gate-operation, pins-length}
-use Rattle.visit.proofs.Checks.{joins, ended, ended-by, goes-on, stops}
-use Rattle.visit.proofs.Cells.{cell-new, cell-open, driver-at, known-small, same-code, told-class, untold-between, untold-searched}
+use Rattle.visit.proofs.Cells.{driver-at}
 
 -- the waiting gate goes on with the number of a visit behind it, unless that is 8
 reacts : (e : Outcome) (after : List ℕ) (o : Op) (p : Class) (goOn : Class → List ℕ → Ended)

@@ -1,21 +1,13 @@
 -- The room of a search: a byte for each signal.
-use Prim.Native.Nat.{ℕ, suc, _-_, _/_, _%_, _≤_, _<_}
-use mathlib.Core.Bool.{Bool, cond}
+use Prim.Native.Nat.{ℕ, suc, _≤_, _<_}
 use mathlib.Core.Path.{_≡_}
-use mathlib.Core.List.{List, [], _∷_, map}
-use lib.Dec.{ltb}
+use mathlib.Core.List.{List, [], _∷_}
 use lib.ListN.{getD}
-use Rattle.kung.specs.Class.{ofCode}
-use Rattle.kung.specs.Operation.{invertIf}
 use Rattle.rows.specs.Rows.{invertsIn, wordIn}
-use Rattle.search.specs.Search.{Cell, new, kept, byteOf, driverOf}
+use Rattle.search.specs.Search.{byteOf, driverOf}
+use Rattle.cells.specs.Cells.{cellIn, knownOf, toldIn}
 use Rattle.visit.specs.Source.{signalOf}
 use Rattle.visit.specs.Codes.{toldOf}
-
--- Below 8 the class that is given, 8 for a gate that is new, 16 + 8 next + p for an unfinished one, and 128 + 8 next + its class for a known one: a
--- pin on it is taken without a look at its row, and p is its class before the inversion.
-unfoldable pub cellIn : (inverted : Bool) → (byte : ℕ) → Cell
-cellIn v b = cond (ltb b 16) new (cond (ltb b 128) (kept (ofCode b) (b / 8 - 2)) (kept (invertIf v (ofCode b)) (b / 8 - 16)))
 
 -- the definition's cells, for the signals from s on
 unfoldable pub cellsFrom : (rows : List ℕ) → (s : ℕ) → List ℕ → List ℕ
@@ -24,17 +16,6 @@ cellsFrom rows s (b ∷ bytes) = byteOf (cellIn (invertsIn (wordIn rows s)) b) �
 
 abbrev pub cellsIn : (rows bytes : List ℕ) → List ℕ
 cellsIn rows bytes = cellsFrom rows 0 bytes
-
--- what is known before the search: a given class, or 8
-abbrev pub knownOf : ℕ → ℕ
-knownOf b = cond (ltb b 8) b 8
-
-abbrev pub knownIn : List ℕ → List ℕ
-knownIn bytes = map knownOf bytes
-
--- the class that a byte tells, 8 where the signal has to be visited
-abbrev pub toldIn : ℕ → ℕ
-toldIn b = cond (ltb b 8) b (cond (ltb b 128) 8 (b % 8))
 
 -- the bytes of the signals below n tell what the definition's cells tell
 abbrev pub Marked : (rows : List ℕ) (s b : ℕ) → Type 0

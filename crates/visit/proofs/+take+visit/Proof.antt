@@ -23,15 +23,17 @@ use Rattle.kung.proofs.Finite.{ofCode-code}
 use Rattle.rows.specs.Rows.{countIn, gateIn, invertsIn, wordIn, rowKind, rowPins}
 use Rattle.rows.specs.Lent.{GateRow}
 use Rattle.search.specs.Search.{Cell, kept, put, only, Outcome, checks, waits}
-use Rattle.visit.specs.Codes.{waitingOf, codeOr, checkOf, begunFrom, markOf}
-use Rattle.visit.specs.Cells.{cellIn, cellsIn, knownIn, toldIn, Marks}
+use Rattle.cells.specs.Codes.{waitingOf, codeOr, checkOf, begunFrom, markOf}
+use Rattle.cells.specs.Cells.{cellIn, knownIn, toldIn}
+use Rattle.cells.proofs.Codes.{code-small, only-code}
+use Rattle.cells.proofs.Checks.{ended, over, wants, last-class, last-ends, last-is}
+use Rattle.cells.proofs.Cells.{open-cell, told-small, untold-searched, begun-next}
+use Rattle.visit.specs.Cells.{cellsIn, Marks}
 use Rattle.visit.specs.Lent.{SearchReady}
 use Rattle.visit.specs.Visits.{Lends, Takes}
 use Rattle.visit.proofs.Sources.{gate-operation, inverts-is, pin-is, falling}
-use Rattle.visit.proofs.Checks.{ended, over, wants, last-class, last-ends, last-is}
 use Rattle.visit.proofs.Totals.{gates-few}
-use Rattle.visit.proofs.Codes.{code-small, only-code}
-use Rattle.visit.proofs.Cells.{cells-length, open-cell, told-small, untold-searched, begun-next}
+use Rattle.visit.proofs.Cells.{cells-length}
 use Rattle.visit.proofs.Visits.{Rest, takes-told, rest-first, rest-ends, rest-next, rest-stopped, Ends, ends-small, ends-put}
 use Rattle.visit.proofs.Turns.{Held, Begun, begins, own-put, put-put, held-length, held-pins, held-after, marks-after, marked-cell, marked-told, marked-large, leaves}
 use Rattle.visit.proofs.take.Reads as take
@@ -40,6 +42,16 @@ use Rattle.visit.proofs.+take+visit.Lts-take as take-lts
 use Rattle.visit.proofs.visit.Reads as visit
 use Rattle.visit.proofs.visit.Kinds as visit-kinds
 use Rattle.visit.proofs.+take+visit.Lts-visit as visit-lts
+use Rattle.cells.proofs.arrive.Reads as arrive-reads
+use Rattle.cells.proofs.check_known.Reads as check-known-reads
+use Rattle.cells.proofs.check_set.Reads as check-set-reads
+use Rattle.cells.proofs.class_of.Reads as class-of-reads
+use Rattle.cells.proofs.has_class.Reads as has-class-reads
+use Rattle.cells.proofs.is_told.Reads as is-told-reads
+use Rattle.cells.proofs.known_mark.Reads as known-mark-reads
+use Rattle.cells.proofs.leave.Reads as leave-reads
+use Rattle.cells.proofs.mark_of.Reads as mark-of-reads
+use Rattle.cells.proofs.open_mark.Reads as open-mark-reads
 use Rattle.kung.proofs.only_class.Reads as only-class-reads
 use Rattle.kung.proofs.swapped.Reads as swapped-reads
 use Rattle.lookup.proofs.joined_by.Reads as joined-by-reads
@@ -48,19 +60,9 @@ use Rattle.lookup.proofs.preimage_of.Reads as preimage-of-reads
 use Rattle.lookup.proofs.reach_of.Reads as reach-of-reads
 use Rattle.lookup.proofs.stop_bits.Reads as stop-bits-reads
 use Rattle.rows.proofs.word_of.Reads as word-of-reads
-use Rattle.visit.proofs.arrive.Reads as arrive-reads
-use Rattle.visit.proofs.check_known.Reads as check-known-reads
-use Rattle.visit.proofs.check_set.Reads as check-set-reads
-use Rattle.visit.proofs.class_of.Reads as class-of-reads
 use Rattle.visit.proofs.count_in.Reads as count-in-reads
 use Rattle.visit.proofs.gate_in.Reads as gate-in-reads
 use Rattle.visit.proofs.goal_of.Reads as goal-of-reads
-use Rattle.visit.proofs.has_class.Reads as has-class-reads
-use Rattle.visit.proofs.is_told.Reads as is-told-reads
-use Rattle.visit.proofs.known_mark.Reads as known-mark-reads
-use Rattle.visit.proofs.leave.Reads as leave-reads
-use Rattle.visit.proofs.mark_of.Reads as mark-of-reads
-use Rattle.visit.proofs.open_mark.Reads as open-mark-reads
 use Rattle.visit.proofs.pin_at.Reads as pin-at-reads
 use Rattle.visit.proofs.waiter_of.Reads as waiter-of-reads
 use Rattle.visit.proofs.+take+visit.{statement}

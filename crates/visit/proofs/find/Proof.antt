@@ -5,8 +5,8 @@ use mathlib.Core.Path.{_≡_, refl, sym, _∙_, ap, subst}
 use mathlib.Core.List.{[], _∷_, _++_}
 use lib.ListN.{getD, drop}
 use lib.Seq.{length-take-le}
+use Rattle.cells.specs.Cells.{toldIn}
 use Rattle.visit.specs.Lent.{SearchReady}
-use Rattle.visit.specs.Cells.{toldIn}
 use Rattle.visit.specs.Visits.{Lends}
 use Rattle.visit.proofs.Sources.{falling}
 use Rattle.visit.proofs.Searches.{search-given, fresh-known, fresh-tally, fresh-marks, search-visited, known-left}
