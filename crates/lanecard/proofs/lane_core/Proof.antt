@@ -1,6 +1,7 @@
 -- `lanecard::lane_core` meets its contract: the answer of CORE, in words. Assumes nothing.
-use mathlib.Core.Path.{_∙_, sym, ap}
-use Rattle.lanecard.specs.Answers.{coredAnswer}
+use mathlib.Core.Path.{sym}
+use Rattle.answers.specs.Answers.{coredAnswer}
+use Rattle.answers.proofs.Words.{same}
 use borrow.Author.Needs.{needs}
 use Rattle.lanecard.proofs.lane_core.Statement.{statement}
 use Rattle.lanecard.proofs.lane_core.Tie as tie
@@ -8,60 +9,11 @@ use Rattle.lanecard.proofs.lane_core.Tie as tie
 core-requires : tie.Need-core-requires
 core-requires c κs = search needs
 
-enum-known-cored : tie.Need-enum-known-cored
-enum-known-cored c = search needs
-
-refuse-requires : tie.Need-refuse-requires
-refuse-requires c κs = search needs
-
-enum-known-cored-2 : tie.Need-enum-known-cored-2
-enum-known-cored-2 c = search needs
-
-cast-put : tie.Need-cast-put
-cast-put c = search needs
-
-put-requires : tie.Need-put-requires
-put-requires c κs = search needs
-
-enum-known-cored-3 : tie.Need-enum-known-cored-3
-enum-known-cored-3 c = search needs
-
-put-requires-2 : tie.Need-put-requires-2
-put-requires-2 c κs = search needs
+put-cored-requires : tie.Need-put-cored-requires
+put-cored-requires c κs = search needs
 
 returns : tie.Need-returns
-unfolding coredAnswer
-returns c =
-    let k = c .before .before .before in
-    let e = sym (k .before .before .core .ensures) ∙ k .cored .given .1 in
-    (c .refuse .ensures .0 ∙ sym (ap (λ x. coredAnswer x .number) e), c .refuse .ensures .1 ∙ sym (ap (λ x. coredAnswer x .words) e))
-
-returns-2 : tie.Need-returns-2
-unfolding coredAnswer
-returns-2 c =
-    let k = c .before .before .before in
-    let e = sym (k .before .before .core .ensures) ∙ k .cored2 .given .1 in
-    (sym (ap (λ x. coredAnswer x .number) e), c .put .ensures ∙ sym (ap (λ x. coredAnswer x .words) e))
-
-returns-3 : tie.Need-returns-3
-unfolding coredAnswer
-returns-3 c =
-    let k = c .before .before .before in
-    let e = sym (k .before .before .core .ensures) ∙ k .cored3 .given .1 in
-    (sym (ap (λ x. coredAnswer x .number) e), c .put2 .ensures ∙ sym (ap (λ x. coredAnswer x .words) e))
+returns c = same coredAnswer (sym (c .before .before .core .ensures)) (c .put-cored .ensures)
 
 pub lane-core-spec : {M : Type 1} → statement M
-lane-core-spec =
-    tie.close
-    (tie.spec
-    core-requires
-    enum-known-cored
-    refuse-requires
-    enum-known-cored-2
-    cast-put
-    put-requires
-    enum-known-cored-3
-    put-requires-2
-    returns
-    returns-2
-    returns-3)
+lane-core-spec = tie.close (tie.spec core-requires put-cored-requires returns)

@@ -1,21 +1,16 @@
 -- The answers as the exported functions give them: the refusal's number, or 0, and five words.
 use Prim.Native.Nat.{ℕ}
-use mathlib.Core.Path.{_≡_}
 use mathlib.Core.List.{List, [], _∷_}
-use Rattle.batch.specs.Batch.{allAnswer, allBuffer}
 use Rattle.lists.specs.declared.Judged.{Judged}
 use Rattle.lists.specs.declared.Judged.the-variants as batch
-use Rattle.lists.specs.Methods.{Method}
 use Rattle.netlist.specs.declared.Checked.{Checked}
 use Rattle.netlist.specs.declared.Checked.the-variants as netlist
 use Rattle.changes.specs.declared.Listed.{Listed}
 use Rattle.changes.specs.declared.Listed.the-variants as list
 use Rattle.core.specs.declared.Cored.{Cored}
 use Rattle.core.specs.declared.Cored.the-variants as core
-use Rattle.forward.specs.Forward.{forwardAnswer, forwardBuffer}
 use Rattle.forward.specs.declared.Forwarded.{Forwarded}
 use Rattle.forward.specs.declared.Forwarded.the-variants as forward
-use Rattle.simulate.specs.Full.{fullAnswer, fullBuffer}
 use Rattle.simulate.specs.declared.Simulated.{Simulated}
 use Rattle.simulate.specs.declared.Simulated.the-variants as simulate
 use Rattle.walk.specs.declared.Start.{Start}
@@ -44,12 +39,6 @@ unfoldable pub simulatedAnswer : Simulated → Answer
 simulatedAnswer simulate.Done = accepted 0 0 0 0 0
 simulatedAnswer (simulate.Refused number place) = refused number place
 
--- full simulation's number, words and lent bytes
-pub record Fulled (n l : List ℕ) (change : ℕ) (entry exit : List ℕ) (number : ℕ) (words : List ℕ) : Type 0 where
-  pub number-is : number ≡ simulatedAnswer (fullAnswer n l change entry) .number
-  pub words-are : words ≡ simulatedAnswer (fullAnswer n l change entry) .words
-  pub bytes-are : exit ≡ fullBuffer n l change entry
-
 -- clean: 0 and the class; hazardous: 1; then gates and pins
 unfoldable pub coredAnswer : Cored → Answer
 coredAnswer (core.Clean class gates pins) = accepted 0 class gates pins 0
@@ -61,22 +50,10 @@ unfoldable pub forwardedAnswer : Forwarded → Answer
 forwardedAnswer (forward.Done touched visited) = accepted touched visited 0 0 0
 forwardedAnswer (forward.Refused number place) = refused number place
 
--- the forward method's number, words and lent bytes
-pub record ForwardedOf (n l : List ℕ) (change : ℕ) (entry exit : List ℕ) (number : ℕ) (words : List ℕ) : Type 0 where
-  pub number-is : number ≡ forwardedAnswer (forwardAnswer n l change entry) .number
-  pub words-are : words ≡ forwardedAnswer (forwardAnswer n l change entry) .words
-  pub bytes-are : exit ≡ forwardBuffer n l change entry
-
 -- the changes, the bytes of each, and a method's two counts over all changes
 unfoldable pub judgedAnswer : Judged → Answer
 judgedAnswer (batch.Done changes width first second) = accepted changes width first second 0
 judgedAnswer (batch.Refused number place) = refused number place
-
--- a method's number, words and lent bytes for all changes of a list
-pub record AllJudged (m : Method) (n l : List ℕ) (entry exit : List ℕ) (number : ℕ) (words : List ℕ) : Type 0 where
-  pub number-is : number ≡ judgedAnswer (allAnswer m n l entry) .number
-  pub words-are : words ≡ judgedAnswer (allAnswer m n l entry) .words
-  pub bytes-are : exit ≡ allBuffer m n l entry
 
 -- opening a walk: where it starts, by number and place, and how many records it has to hand back
 unfoldable pub openedAnswer : Checked → (number place count : ℕ) → Answer
