@@ -2,7 +2,7 @@
 use Prim.Native.Nat.{ℕ}
 use mathlib.Core.List.{List, [], _∷_}
 use Rattle.lists.specs.declared.Judged.{Judged}
-use Rattle.lists.specs.declared.Judged.the-variants as batch
+use Rattle.lists.specs.declared.Judged.the-variants as lists
 use Rattle.netlist.specs.declared.Checked.{Checked}
 use Rattle.netlist.specs.declared.Checked.the-variants as netlist
 use Rattle.changes.specs.declared.Listed.{Listed}
@@ -52,8 +52,8 @@ forwardedAnswer (forward.Refused number place) = refused number place
 
 -- the changes, the bytes of each, and a method's two counts over all changes
 unfoldable pub judgedAnswer : Judged → Answer
-judgedAnswer (batch.Done changes width first second) = accepted changes width first second 0
-judgedAnswer (batch.Refused number place) = refused number place
+judgedAnswer (lists.Done changes width first second) = accepted changes width first second 0
+judgedAnswer (lists.Refused number place) = refused number place
 
 -- opening a walk: where it starts, by number and place, and how many records it has to hand back
 unfoldable pub openedAnswer : Checked → (number place count : ℕ) → Answer

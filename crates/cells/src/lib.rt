@@ -21,6 +21,7 @@ pub const STOPPED: u8 = 8;
 // No gate waits for the output's.
 pub const NOBODY: u8 = 16;
 
+// Whether a set has a class.
 pub fn has_class(set: u8, class: u8) -> bool
     ensures { λ r. ⌜ r ≡ has set (ofCode class) ⌝ }
 {
