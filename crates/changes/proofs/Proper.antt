@@ -7,10 +7,10 @@ use mathlib.Core.Bool.{true, false}
 use mathlib.Core.List.{List, [], _∷_}
 use borrow.Author.Tests.{le-ltb, ltb-false, eqb-true, not-false}
 use Rattle.circuit.specs.Circuit.{Each}
-use Rattle.words.specs.Words.{tieOf}
 use Rattle.words.specs.Refusal.{refuse}
 use Rattle.words.proofs.Laws.{within}
 use Rattle.words.proofs.Refusal.{pass}
+use Rattle.tie.specs.Tie.{tieOf}
 use Rattle.netlist.specs.declared.Checked.{Checked}
 use Rattle.netlist.specs.declared.Checked.the-variants as netlist
 use Rattle.netlist.specs.Netlist.{inputsOf, shapeOf, accepted}

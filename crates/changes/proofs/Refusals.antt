@@ -7,8 +7,9 @@ use mathlib.Core.List.{List}
 use borrow.Author.Tests.{lt-ltb, le-ltb, eq-eqb, ne-eqb}
 use lib.Dec.{eqb}
 use lib.ListN.{length}
-use Rattle.words.specs.Words.{byteAt, wordAt, longAt, marked, outside, tieOf}
+use Rattle.words.specs.Words.{byteAt, wordAt, longAt, marked, outside}
 use Rattle.words.proofs.Laws.{outside-above, inside}
+use Rattle.tie.specs.Tie.{tieOf}
 use Rattle.netlist.specs.Netlist.{checked}
 use Rattle.netlist.specs.declared.Shape.{Shape}
 use Rattle.netlist.specs.declared.Checked.the-variants as netlist

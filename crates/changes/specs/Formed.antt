@@ -3,7 +3,8 @@ use Prim.Native.Nat.{ℕ, _+_, _*_, _≤_}
 use mathlib.Core.Path.{_≡_}
 use mathlib.Core.List.{List}
 use lib.ListN.{length}
-use Rattle.words.specs.Words.{longAt, tieOf}
+use Rattle.words.specs.Words.{longAt}
+use Rattle.tie.specs.Tie.{tieOf}
 use Rattle.netlist.specs.Netlist.{checked}
 use Rattle.netlist.specs.declared.Checked.the-variants as netlist
 use Rattle.changes.specs.declared.Task.{Task}

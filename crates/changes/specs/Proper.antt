@@ -7,7 +7,8 @@ use mathlib.Core.Bool.{true, not}
 use mathlib.Core.List.{List, [], _∷_, _++_}
 use lib.Dec.{eqb, ltb}
 use lib.ListN.{length}
-use Rattle.words.specs.Words.{byteAt, wordAt, longAt, marked, outside, tieOf}
+use Rattle.words.specs.Words.{byteAt, wordAt, longAt, marked, outside}
+use Rattle.tie.specs.Tie.{tieOf}
 use Rattle.netlist.specs.Netlist.{inputsOf, shapeOf}
 use Rattle.netlist.specs.Proper.{Proper, Condition, when, conditions}
 use Rattle.changes.specs.declared.Listed.{Listed}

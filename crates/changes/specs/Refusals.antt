@@ -4,8 +4,9 @@ use mathlib.Core.Bool.{not}
 use mathlib.Core.List.{List}
 use lib.Dec.{eqb, ltb}
 use lib.ListN.{length}
-use Rattle.words.specs.Words.{byteAt, wordAt, longAt, marked, outside, tieOf}
+use Rattle.words.specs.Words.{byteAt, wordAt, longAt, marked, outside}
 use Rattle.words.specs.Refusal.{refuse}
+use Rattle.tie.specs.Tie.{tieOf}
 use Rattle.netlist.specs.Netlist.{checked}
 use Rattle.netlist.specs.declared.Checked.{Checked}
 use Rattle.netlist.specs.declared.Shape.{Shape}

@@ -97,7 +97,7 @@ pub fn decode(netlist: &[u8], list: &[u8], rows: &mut [u16]) -> Listed
     match netlist::decode(netlist, rows) {
         Checked::Refused(number, place) => Listed::Refused(number, place),
         Checked::Accepted(shape) => {
-            let tie = words::tie(netlist);
+            let tie = tie::tie(netlist);
             let inputs = shape.inputs;
             let next = Listed::Accepted(Task {
                 shape,

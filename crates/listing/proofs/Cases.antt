@@ -6,8 +6,9 @@ use Rattle.kung.specs.Operation.{join, joinAll}
 use Rattle.kung.specs.Sets.{setOf, has, meets, image, possible, wantedFor}
 use Rattle.circuit.specs.Circuit.{sources, values, value}
 use Rattle.circuit.specs.Settled.{classOf}
-use Rattle.words.specs.Words.{wordAt, longAt, wordsAt, marked, outside, tieFrom, tieOf}
+use Rattle.words.specs.Words.{wordAt, longAt, wordsAt, marked, outside}
 use Rattle.words.specs.Refusal.{refuse}
+use Rattle.tie.specs.Tie.{tieFrom, tieOf}
 use Rattle.records.specs.Records as records
 use Rattle.netlist.specs.Netlist as netlist
 use Rattle.changes.specs.Changes.{bitAt, inputClassAt, sourcesOf}

@@ -5,8 +5,9 @@ use mathlib.Core.List.{List, [], _∷_, map}
 use Rattle.kung.specs.Class.{Class, c0, c1, R, F, S0, S1, D+, D-, code}
 use Rattle.kung.specs.Rule.{each, some, andAll, orAll, Kind, AND, OR, NAND, NOR, kindOf, gateClass}
 use Rattle.circuit.specs.Circuit.{sources, values}
-use Rattle.words.specs.Words.{wordAt, longAt, wordsAt, marked, outside, tieFrom, tieOf}
+use Rattle.words.specs.Words.{wordAt, longAt, wordsAt, marked, outside}
 use Rattle.words.specs.Refusal.{refuse}
+use Rattle.tie.specs.Tie.{tieFrom, tieOf}
 use Rattle.records.specs.Records as records
 use Rattle.netlist.specs.Netlist as netlist
 use Rattle.changes.specs.declared.Listed.the-variants.{Accepted}

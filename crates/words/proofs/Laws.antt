@@ -1,17 +1,14 @@
--- Laws of words, ranges, marks and the tie. Assumes nothing.
-use Prim.Native.Nat.{ℕ, zero, suc, _+_, _-_, _*_, _%_, _≤_, _<_}
+-- Laws of words, ranges and marks. Assumes nothing.
+use Prim.Native.Nat.{ℕ, zero, suc, _+_, _*_, _≤_, _<_}
 use native.Mathlib.Omega.{arith}
-use native.Mathlib.Nat.{add-zero, add-mul, mul-add, suc-mul, mod-add-mod, add-mod-mod, add-mod, mod-eq-of-lt}
-use native.Mathlib.Numerals.{add-one}
+use native.Mathlib.Nat.{add-zero}
 use mathlib.Core.Path.{_≡_, refl, sym, _∙_, ap}
-use mathlib.Core.List.{List, [], _∷_}
+use mathlib.Core.List.{List}
 use mathlib.Core.Bool.{Bool, true, false, _||_}
 use borrow.Author.Tests.{lt-ltb, le-ltb, ltb-false, eq-eqb, ne-eqb}
 use lib.Dec.{eqb, ltb}
-use lib.ListN.{length, getD, drop, List·getD-eq-default}
-use lib.Seq.{drop-cons, drop-length}
-use Rattle.words.specs.Words.{byteAt, wordAt, longAt, wordsAt, marked, outside, grown, tieFrom}
-use Rattle.words.specs.Blocks.{sumAt, weightAt}
+use lib.ListN.{length, getD, List·getD-eq-default}
+use Rattle.words.specs.Words.{byteAt, wordAt, longAt, wordsAt, marked, outside}
 
 -- past the end all is 0
 pub word-past : (s : List ℕ) (at : ℕ) → length s ≤ at → 0 ≡ wordAt s at
@@ -71,71 +68,3 @@ module _ (s : List ℕ) (a b c : ℕ) where
   pub marked-third : byteAt s 0 ≡ a → byteAt s 1 ≡ b → marked s a b c ≡ eqb (byteAt s 2) c
   unfolding marked
   marked-third e d = rw (eq-eqb (byteAt s 0) a e, eq-eqb (byteAt s 1) b d)
-
--- one byte more of the tie
-pub tie-more : (a b : ℕ) (s : List ℕ) (i : ℕ) → i < length s
-    → tieFrom a b (drop i s) ≡ tieFrom (grown a (byteAt s i)) (grown b (grown a (byteAt s i))) (drop (i + 1) s)
-unfolding tieFrom
-tie-more a b s i h = rw (add-one, drop-cons s i 0 h)
-
-pub tie-end : (a b : ℕ) (s : List ℕ) (i : ℕ) → i ≡ length s → tieFrom a b (drop i s) ≡ b
-unfolding tieFrom
-tie-end a b s i e = rw (e, drop-length s)
-
--- n bytes at once: shown of the tie without its modulus, which may be taken at the end as well
-exactFrom : (a b : ℕ) → List ℕ → ℕ
-exactFrom a b [] = b
-exactFrom a b (x ∷ s) = exactFrom (a + x) (b + (a + x)) s
-
-exact-mod : (a b : ℕ) (s : List ℕ) → tieFrom (a % 4294967296) (b % 4294967296) s ≡ exactFrom a b s % 4294967296
-unfolding tieFrom exactFrom
-exact-mod a b [] = refl
-exact-mod a b (x ∷ s) = rw (mod-add-mod a 4294967296 x, ← add-mod b (a + x) 4294967296) (exact-mod (a + x) (b + (a + x)) s)
-
-exact-block : (n a b : ℕ) (s : List ℕ) (i : ℕ) → i + n ≤ length s → exactFrom a b (drop i s) ≡ exactFrom (a + sumAt n s i) (b + n * a + weightAt n s i) (drop (i + n) s)
-unfolding sumAt weightAt exactFrom
-exact-block zero a b s i h = let e : b + 0 * a + 0 ≡ b = omega arith in rw (add-zero a, e, add-zero i)
-exact-block (suc n) a b s i h =
-    let x = byteAt s i in
-    let first : exactFrom a b (drop i s) ≡ exactFrom (a + x) (b + (a + x)) (drop (i + 1) s) = rw (add-one i, drop-cons s i 0 (omega arith)) in
-    let sum : a + x + sumAt n s (i + 1) ≡ a + (x + sumAt n s (i + 1)) = omega arith in
-    let weight : b + (a + x) + n * (a + x) + weightAt n s (i + 1) ≡ b + suc n * a + (suc n * x + weightAt n s (i + 1)) = rw (mul-add n a x, suc-mul n a, suc-mul n x) (omega arith) in
-    let place : i + 1 + n ≡ i + suc n = omega arith in
-    first ∙ rw (sum, weight, place) at (exact-block n (a + x) (b + (a + x)) s (i + 1) (omega arith))
-
-pub tie-block : (n a b : ℕ) (s : List ℕ) (i : ℕ) → a < 4294967296 → b < 4294967296 → i + n ≤ length s
-    → tieFrom a b (drop i s) ≡ tieFrom ((a + sumAt n s i) % 4294967296) ((b + n * a + weightAt n s i) % 4294967296) (drop (i + n) s)
-tie-block n a b s i p q h =
-    let e : tieFrom (a % 4294967296) (b % 4294967296) (drop i s) ≡ tieFrom a b (drop i s) = rw (mod-eq-of-lt p, mod-eq-of-lt q) in
-    sym e ∙ exact-mod a b (drop i s) ∙ ap (λ x. x % 4294967296) (exact-block n a b s i h) ∙ sym (exact-mod _ _ _)
-
--- what the blocks carry over: a number doubled, wrapping, and put into the second sum
-pub doubled : (n a x y : ℕ) → x ≡ n * a % 4294967296 → y ≡ (x + x) % 4294967296 → y ≡ (n + n) * a % 4294967296
-doubled n a x y e d = d ∙ rw (e, ← add-mod (n * a) (n * a) 4294967296, add-mul n n a)
-
-pub carried : (b c w : ℕ) → ((b + c % 4294967296) % 4294967296 + w) % 4294967296 ≡ (b + c + w) % 4294967296
-carried b c w = rw (add-mod-mod b c 4294967296, mod-add-mod (b + c) 4294967296 w)
-
--- the sums of n bytes, where those from byte k on are left
-module _ (n : ℕ) (s : List ℕ) (at k : ℕ) (h : k < n) where
-  pub sum-more : sumAt (n - k) s (at + k) ≡ byteAt s (at + k) + sumAt (n - (k + 1)) s (at + (k + 1))
-  unfolding sumAt
-  sum-more =
-      let e : n - k ≡ suc (n - (k + 1)) = omega arith in
-      let d : at + k + 1 ≡ at + (k + 1) = omega arith in
-      rw (e, d)
-
-  pub weight-more : weightAt (n - k) s (at + k) ≡ (n - k) * byteAt s (at + k) + weightAt (n - (k + 1)) s (at + (k + 1))
-  unfolding weightAt
-  weight-more =
-      let e : n - k ≡ suc (n - (k + 1)) = omega arith in
-      let d : at + k + 1 ≡ at + (k + 1) = omega arith in
-      rw (e, d)
-
-pub sum-end : (n : ℕ) (s : List ℕ) (at k : ℕ) → n ≤ k → sumAt (n - k) s at ≡ 0
-unfolding sumAt
-sum-end n s at k h = let e : n - k ≡ 0 = omega arith in rw e
-
-pub weight-end : (n : ℕ) (s : List ℕ) (at k : ℕ) → n ≤ k → weightAt (n - k) s at ≡ 0
-unfolding weightAt
-weight-end n s at k h = let e : n - k ≡ 0 = omega arith in rw e

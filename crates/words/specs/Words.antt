@@ -1,5 +1,5 @@
--- Document 01, "The card netlist": words of two and four bytes, and the tie.
-use Prim.Native.Nat.{ℕ, zero, suc, _+_, _*_, _%_}
+-- Document 01, "The card netlist": words of two and four bytes.
+use Prim.Native.Nat.{ℕ, zero, suc, _+_, _*_}
 use mathlib.Core.Bool.{Bool, _&&_, _||_}
 use mathlib.Core.List.{List, [], _∷_}
 use lib.Dec.{eqb, ltb}
@@ -28,14 +28,3 @@ marked s a b c = eqb (byteAt s 0) a && eqb (byteAt s 1) b && eqb (byteAt s 2) c
 -- a number out of its range
 unfoldable pub outside : (least most n : ℕ) → Bool
 outside least most n = ltb n least || ltb most n
-
--- "two running sums modulo 4,294,967,296, both 0 at first: for each byte, A grows by the byte, then B by A. The tie is B."
-abbrev pub grown : ℕ → ℕ → ℕ
-grown sum n = (sum + n) % 4294967296
-
-unfoldable pub tieFrom : (a b : ℕ) → List ℕ → ℕ
-tieFrom a b [] = b
-tieFrom a b (x ∷ s) = tieFrom (grown a x) (grown b (grown a x)) s
-
-unfoldable pub tieOf : List ℕ → ℕ
-tieOf s = tieFrom 0 0 s

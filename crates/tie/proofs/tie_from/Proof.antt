@@ -3,11 +3,11 @@ use Prim.Native.Nat.{_≤_, _-_}
 use native.Mathlib.Omega.{arith}
 use mathlib.Core.Path.{_≡_, _∙_, refl, sym}
 use lib.ListN.{length, drop}
-use Rattle.words.specs.Words.{tieFrom}
-use Rattle.words.proofs.Laws.{tie-more, tie-end}
+use Rattle.tie.specs.Tie.{tieFrom}
+use Rattle.tie.proofs.Laws.{tie-more, tie-end}
 use borrow.Author.Needs.{needs}
-use Rattle.words.proofs.tie_from.Statement.{statement}
-use Rattle.words.proofs.tie_from.Tie as tie
+use Rattle.tie.proofs.tie_from.Statement.{statement}
+use Rattle.tie.proofs.tie_from.Tie as tie
 
 abbrev Inv-loop : tie.InvT-loop
 Inv-loop s start first second a₀ b₀ i₀ a b i = (i ≤ length s) × (tieFrom first second (drop start s) ≡ tieFrom a b (drop i s))

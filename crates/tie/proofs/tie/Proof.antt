@@ -3,12 +3,12 @@ use Prim.Native.Nat.{_-_, _*_, _≤_, _<_}
 use native.Mathlib.Omega.{arith}
 use mathlib.Core.Path.{_≡_, _∙_, refl, sym}
 use lib.ListN.{length, drop}
-use Rattle.words.specs.Words.{tieFrom, tieOf}
-use Rattle.words.specs.Blocks.{weightAt}
-use Rattle.words.proofs.Laws.{tie-block, carried}
+use Rattle.tie.specs.Tie.{tieFrom, tieOf}
+use Rattle.tie.specs.Blocks.{weightAt}
+use Rattle.tie.proofs.Laws.{tie-block, carried}
 use borrow.Author.Needs.{needs}
-use Rattle.words.proofs.tie.Statement.{statement}
-use Rattle.words.proofs.tie.Tie as tie
+use Rattle.tie.proofs.tie.Statement.{statement}
+use Rattle.tie.proofs.tie.Tie as tie
 
 abbrev Inv-loop : tie.InvT-loop
 Inv-loop s a₀ b₀ i₀ a b i = (i ≤ length s) × (a < 4294967296) × (b < 4294967296) × (tieOf s ≡ tieFrom a b (drop i s))

@@ -1,9 +1,9 @@
 -- `times_64`: each sum doubles the one before. Assumes nothing.
 use native.Mathlib.Omega.{arith}
 use borrow.Author.Needs.{needs}
-use Rattle.words.proofs.Laws.{doubled}
-use Rattle.words.proofs.times_64.Statement.{statement}
-use Rattle.words.proofs.times_64.Tie as tie
+use Rattle.tie.proofs.Laws.{doubled}
+use Rattle.tie.proofs.times_64.Statement.{statement}
+use Rattle.tie.proofs.times_64.Tie as tie
 
 wrapping-add-u32-requires : tie.Need-wrapping-add-u32-requires
 wrapping-add-u32-requires κs = search needs

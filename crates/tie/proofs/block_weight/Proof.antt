@@ -4,11 +4,11 @@ use native.Mathlib.Omega.{arith}
 use native.Mathlib.Nat.{add-zero, zero-add, mul-le-mul}
 use mathlib.Core.Path.{_≡_}
 use borrow.Author.Needs.{needs}
 use Rattle.words.specs.Words.{byteAt}
-use Rattle.words.specs.Blocks.{weightAt}
-use Rattle.words.proofs.Laws.{weight-more, weight-end}
-use Rattle.words.proofs.block_weight.Statement.{statement}
-use Rattle.words.proofs.block_weight.Tie as tie
+use Rattle.tie.specs.Blocks.{weightAt}
+use Rattle.tie.proofs.Laws.{weight-more, weight-end}
+use Rattle.tie.proofs.block_weight.Statement.{statement}
+use Rattle.tie.proofs.block_weight.Tie as tie
 
 abbrev Inv-loop : tie.InvT-loop
 Inv-loop s at sum₀ k₀ sum k = (k ≤ 64) × (sum ≤ 16320 * k) × (weightAt 64 s at ≡ sum + weightAt (64 - k) s (at + k))

@@ -4,10 +4,10 @@ use native.Mathlib.Omega.{arith}
 use native.Mathlib.Nat.{add-zero, zero-add}
 use mathlib.Core.Path.{_≡_}
 use borrow.Author.Needs.{needs}
-use Rattle.words.specs.Blocks.{sumAt}
-use Rattle.words.proofs.Laws.{sum-more, sum-end}
-use Rattle.words.proofs.block_sum.Statement.{statement}
-use Rattle.words.proofs.block_sum.Tie as tie
+use Rattle.tie.specs.Blocks.{sumAt}
+use Rattle.tie.proofs.Laws.{sum-more, sum-end}
+use Rattle.tie.proofs.block_sum.Statement.{statement}
+use Rattle.tie.proofs.block_sum.Tie as tie
 
 abbrev Inv-loop : tie.InvT-loop
 Inv-loop s at sum₀ k₀ sum k = (k ≤ 64) × (sum ≤ 255 * k) × (sumAt 64 s at ≡ sum + sumAt (64 - k) s (at + k))
