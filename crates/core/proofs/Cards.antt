@@ -20,7 +20,7 @@ use Rattle.words.proofs.Laws.{words-length}
 use Rattle.records.specs.Records.{countAt}
 use Rattle.netlist.specs.Netlist.{inputsOf, gatesOf, placeOf, pinsBelow, pinTotal, cardOf}
 use Rattle.netlist.specs.Decoded.{Decoded}
-use Rattle.changes.proofs.Laws.{tab-length}
+use Rattle.inputs.proofs.Laws.{tab-length}
 use Rattle.search.specs.Search.{search}
 use Rattle.search.specs.Pins.{sumBelow, pinsIn}
 use Rattle.search.proofs.Writes.{closed-all}

@@ -18,10 +18,10 @@ use Rattle.changes.specs.declared.Listed.the-variants as list
 use Rattle.changes.specs.Changes.{widthOf, inputClassAt, sourcesOf}
 use Rattle.changes.specs.Formed.{ListFormed}
 use Rattle.changes.specs.Lent.{Accepts, signalsOf}
-use Rattle.changes.specs.Written.{inputCodes, codeAt}
 use Rattle.changes.specs.Refusals.{listChecked}
-use Rattle.changes.proofs.Laws.{tab-length}
 use Rattle.changes.proofs.Accepted.{listed}
+use Rattle.inputs.specs.Written.{inputCodes, codeAt}
+use Rattle.inputs.proofs.Laws.{tab-length}
 use Rattle.search.specs.Search.{clean, hazardous, Verdict, Answer, search}
 use Rattle.core.specs.declared.Cored.the-variants.{Refused}
 use Rattle.visit.specs.Source.{sourceFrom}

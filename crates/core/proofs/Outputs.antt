@@ -14,8 +14,8 @@ use Rattle.kung.specs.Sets.{setOf}
 use Rattle.kung.specs.Operation.{opOf, unit}
 use Rattle.circuit.specs.Circuit.{Source, given, gate, pinsOf}
 use Rattle.rows.specs.Rows.{rowPins, outputIn}
-use Rattle.changes.specs.Written.{written}
-use Rattle.changes.proofs.Laws.{written-more, tab-length}
+use Rattle.inputs.specs.Written.{written}
+use Rattle.inputs.proofs.Laws.{written-more, tab-length}
 use Rattle.search.specs.Search as search
 use Rattle.search.specs.Search.{Answer, answerOf, search, visit, endFrom, fresh, nobody, total, gatesVisited}
 use Rattle.search.specs.Pins.{sumBelow, pinsIn}

@@ -3,7 +3,7 @@ ghost use mathlib.Core.Path.{_≡_};
 ghost use Prim.Native.Nat.{_≤_};
 ghost use lib.ListN.{length};
 ghost use Rattle.changes.specs.Lent.{signalsOf};
-ghost use Rattle.changes.specs.Written.{written};
+ghost use Rattle.inputs.specs.Written.{written};
 ghost use Rattle.core.specs.Core.{coreAnswer};
 ghost use Rattle.core.specs.Outputs.{byteFrom, sumFrom};
 ghost use Rattle.core.specs.Codes.{guardedFound, foundByte};
@@ -114,7 +114,7 @@ fn core_in(
                 return Cored::Refused(19, 0);
             }
             let table = tables::search();
-            changes::fill_inputs(list, task, change, known);
+            inputs::fill_inputs(list, task, change, known);
             let signals = shape.inputs + shape.gates;
             let s = rows::output_of(rows, signals, output) as usize;
             let found = find(&table, rows, &mut known[..signals], CLEAN_SET, s);

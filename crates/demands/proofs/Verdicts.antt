@@ -19,8 +19,8 @@ use Rattle.netlist.specs.Netlist.{inputsOf, gatesOf, outputsOf, outputAt, gateK
 use Rattle.netlist.specs.Formed.{Formed}
 use Rattle.netlist.proofs.Accepted.{formed}
 use Rattle.changes.specs.declared.Listed.{Listed}
-use Rattle.changes.proofs.Laws.{tab-length}
 use Rattle.changes.proofs.Accepted.{listed}
+use Rattle.inputs.proofs.Laws.{tab-length}
 use Rattle.simulate.specs.Full.{classIn, codes, left, fullAnswer, fullBuffer}
 use Rattle.simulate.specs.declared.Simulated.the-variants as simulated
 use Rattle.simulate.proofs.Theorems.{class-value, codes-length, codes-at}

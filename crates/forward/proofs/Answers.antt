@@ -10,8 +10,8 @@ use Rattle.netlist.proofs.Accepted.{formed}
 use Rattle.changes.specs.declared.Task.{Task}
 use Rattle.changes.specs.declared.Listed.the-variants as list
 use Rattle.changes.specs.Refusals.{listChecked}
-use Rattle.changes.proofs.Laws.{tab-length}
 use Rattle.changes.proofs.Accepted.{listed}
+use Rattle.inputs.proofs.Laws.{tab-length}
 use Rattle.forward.specs.declared.Forwarded.the-variants.{Done, Refused}
 use Rattle.forward.specs.Forward.{touchedIn, forwardBytes, visitedIn, forwardFrom, forwardAnswer, forwardBuffer}
 

@@ -7,8 +7,8 @@ use lib.ListN.{length, getD, drop, take, List·getD-append}
 use lib.Seq.{getD-take, getD-drop, getD-append-add, length-take-le}
 use Rattle.kung.specs.Tables.{tab}
 use Rattle.kung.proofs.Listed.{getD-tab}
-use Rattle.changes.specs.Written.{written}
-use Rattle.changes.proofs.Laws.{tab-length}
+use Rattle.inputs.specs.Written.{written}
+use Rattle.inputs.proofs.Laws.{tab-length}
 
 -- what stands at each place of a buffer that was written from a place on
 module _ (old : List ℕ) (at : ℕ) (f : ℕ → ℕ) (n : ℕ) (room : at ≤ length old) where

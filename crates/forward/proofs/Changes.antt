@@ -27,9 +27,9 @@ use Rattle.netlist.proofs.Accepted.{formed}
 use Rattle.changes.specs.declared.Task.{Task}
 use Rattle.changes.specs.Changes.{sourcesOf}
 use Rattle.changes.specs.Lent.{Accepts, signalsOf}
-use Rattle.changes.specs.Written.{inputCodes, written}
-use Rattle.changes.proofs.Laws.{written-all, written-kept}
 use Rattle.changes.proofs.Accepted.{listed}
+use Rattle.inputs.specs.Written.{inputCodes, written}
+use Rattle.inputs.proofs.Laws.{written-all, written-kept}
 use Rattle.search.specs.Search.{search}
 use Rattle.search.specs.Pins.{sumBelow}
 use Rattle.sweep.specs.Sweep.{codesOf, isConstantCode, anyConstant, touchedBy}

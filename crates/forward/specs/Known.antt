@@ -3,7 +3,7 @@ use Prim.Native.Nat.{ℕ, _+_}
 use mathlib.Core.Bool.{cond}
 use mathlib.Core.List.{List, _++_}
 use lib.ListN.{getD, drop}
-use Rattle.changes.specs.Written.{written}
+use Rattle.inputs.specs.Written.{written}
 use Rattle.sweep.specs.Sweep.{codesOf, isConstantCode}
 
 -- a gate of another class is to be searched

@@ -80,7 +80,7 @@ fn forward_in(
             }
             let table = tables::gate_table();
             let search = tables::search();
-            changes::fill_inputs(list, task, change, known);
+            inputs::fill_inputs(list, task, change, known);
             let touched = spread(&table, rows, shape.inputs, shape.gates, known, hot);
             let signals = shape.inputs + shape.gates;
             let searched = core::search_outputs(

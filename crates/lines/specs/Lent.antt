@@ -6,7 +6,7 @@ use lib.Dec.{eqb}
 use lib.ListN.{getD, set, drop}
 use Rattle.changes.specs.declared.Task.{Task}
 use Rattle.changes.specs.Lent.{Accepts, signalsOf}
-use Rattle.changes.specs.Written.{inputCodes}
+use Rattle.inputs.specs.Written.{inputCodes}
 use Rattle.sweep.specs.Sweep.{codesOf}
 use Rattle.visit.specs.declared.Found.{Found}
 use Rattle.core.specs.Codes.{foundByte}

@@ -94,6 +94,6 @@ pub fn classify(
 {
     let shape = task.shape;
     let mut hot = [0u8; 2304];
-    changes::fill_inputs(list, task, change, classes);
+    inputs::fill_inputs(list, task, change, classes);
     sweep::pass(table, rows, shape.inputs, shape.gates, &mut hot, classes);
 }

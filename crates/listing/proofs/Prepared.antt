@@ -16,8 +16,8 @@ use Rattle.changes.specs.declared.Task.{Task}
 use Rattle.changes.specs.Changes.{widthOf, inputClassAt, sourcesOf}
 use Rattle.changes.specs.Formed.{ListFormed}
 use Rattle.changes.specs.Lent.{Accepts, signalsOf}
-use Rattle.changes.specs.Written.{inputCodes, codeAt}
-use Rattle.changes.proofs.Laws.{tab-length}
+use Rattle.inputs.specs.Written.{inputCodes, codeAt}
+use Rattle.inputs.proofs.Laws.{tab-length}
 use Rattle.simulate.specs.Full.{codes, classIn}
 use Rattle.simulate.proofs.Theorems.{codes-length, codes-at}
 use Rattle.search.specs.Search.{Verdict, clean, hazardous, search}

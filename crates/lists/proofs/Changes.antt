@@ -23,10 +23,10 @@ use Rattle.changes.specs.declared.Task.{Task}
 use Rattle.changes.specs.declared.Listed.the-variants.{Accepted}
 use Rattle.changes.specs.Changes.{widthOf, inputClassAt}
 use Rattle.changes.specs.Lent.{Accepts, signalsOf}
-use Rattle.changes.specs.Written.{inputCodes, codeAt, written}
 use Rattle.changes.specs.Refusals.{listChecked}
-use Rattle.changes.proofs.Laws.{tab-length, written-all}
 use Rattle.changes.proofs.Accepted.{listed}
+use Rattle.inputs.specs.Written.{inputCodes, codeAt, written}
+use Rattle.inputs.proofs.Laws.{tab-length, written-all}
 use Rattle.simulate.proofs.Theorems.{codes-length}
 use Rattle.search.specs.Search.{Answer, search}
 use Rattle.search.specs.Pins.{sumBelow}

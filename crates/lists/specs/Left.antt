@@ -4,7 +4,7 @@ use mathlib.Core.List.{List, _++_}
 use lib.ListN.{drop}
 use Rattle.changes.specs.declared.Task.{Task}
 use Rattle.changes.specs.Lent.{signalsOf}
-use Rattle.changes.specs.Written.{inputCodes}
+use Rattle.inputs.specs.Written.{inputCodes}
 use Rattle.sweep.specs.Sweep.{hotsOf}
 use Rattle.simulate.specs.Full.{codes}
 use Rattle.forward.specs.Known.{knownCodes}

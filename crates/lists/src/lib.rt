@@ -39,7 +39,7 @@ pub fn full_rows(
     for change in 0..task.changes {
         let at = change * signals;
         let row = &mut buffer[at..];
-        changes::fill_inputs(list, task, change, row);
+        inputs::fill_inputs(list, task, change, row);
         sweep::pass(&table, rows, shape.inputs, shape.gates, hot, row);
     }
     Judged::Done {
@@ -75,7 +75,7 @@ pub fn forward_rows(
     let mut visited: usize = 0;
     for change in 0..task.changes {
         let at = change * outputs;
-        changes::fill_inputs(list, task, change, known);
+        inputs::fill_inputs(list, task, change, known);
         touched += forward::spread(&table, rows, shape.inputs, shape.gates, known, hot);
         let searched = core::search_outputs(
             &search,
@@ -116,7 +116,7 @@ pub fn core_rows(
     let mut taken: usize = 0;
     for change in 0..task.changes {
         let at = change * outputs;
-        changes::fill_inputs(list, task, change, known);
+        inputs::fill_inputs(list, task, change, known);
         let searched = core::search_outputs(
             &search,
             rows,

@@ -22,9 +22,9 @@ use Rattle.changes.specs.declared.Task.{Task}
 use Rattle.changes.specs.Changes.{widthOf, inputClassAt, sourcesOf}
 use Rattle.changes.specs.Formed.{ListFormed}
 use Rattle.changes.specs.Lent.{Accepts, signalsOf}
-use Rattle.changes.specs.Written.{inputCodes, codeAt}
-use Rattle.changes.proofs.Laws.{tab-length}
 use Rattle.changes.proofs.Accepted.{listed}
+use Rattle.inputs.specs.Written.{inputCodes, codeAt}
+use Rattle.inputs.proofs.Laws.{tab-length}
 use Rattle.sweep.specs.Sweep.{sourcesIn, codesOf}
 use Rattle.sweep.specs.Lent.{Passable}
 use Rattle.simulate.specs.Full.{codes}

@@ -35,7 +35,7 @@ fn full_in(
                 return Simulated::Refused(20, 0);
             }
             let table = tables::gate_table();
-            changes::fill_inputs(list, task, change, buffer);
+            inputs::fill_inputs(list, task, change, buffer);
             sweep::pass(&table, rows, shape.inputs, shape.gates, hot, buffer);
             Simulated::Done
         }

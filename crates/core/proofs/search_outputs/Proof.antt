@@ -4,8 +4,8 @@ use Prim.Native.Nat.{_-_, _*_, _≤_}
 use native.Mathlib.Omega.{arith}
 use mathlib.Core.Path.{_≡_, refl, sym, _∙_, ap, subst}
 use lib.ListN.{length}
-use Rattle.changes.specs.Written.{written}
-use Rattle.changes.proofs.Laws.{written-none, written-kept}
+use Rattle.inputs.specs.Written.{written}
+use Rattle.inputs.proofs.Laws.{written-none, written-kept}
 use Rattle.search.specs.Pins.{sumBelow}
 use Rattle.search.specs.Search as spec
 use Rattle.visit.specs.Source.{sourceFrom}

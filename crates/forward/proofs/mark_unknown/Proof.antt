@@ -3,8 +3,8 @@ use Prim.Native.Nat.{_+_, _-_, _≤_}
 use native.Mathlib.Omega.{arith}
 use mathlib.Core.Path.{_≡_, _∙_, ap, ap₂}
 use lib.ListN.{length, getD, set}
-use Rattle.changes.specs.Written.{written}
-use Rattle.changes.proofs.Laws.{written-none, written-more, written-kept}
+use Rattle.inputs.specs.Written.{written}
+use Rattle.inputs.proofs.Laws.{written-none, written-more, written-kept}
 use Rattle.forward.specs.Known.{knownOr8, knownCodes}
 use Rattle.forward.proofs.Bytes.{written-after}
 use borrow.Author.Needs.{needs}

@@ -6,7 +6,7 @@ use mathlib.Core.List.{List, _++_}
 use lib.ListN.{drop}
 use Rattle.changes.specs.declared.Task.{Task}
 use Rattle.changes.specs.Lent.{signalsOf}
-use Rattle.changes.specs.Written.{inputCodes}
+use Rattle.inputs.specs.Written.{inputCodes}
 use Rattle.sweep.specs.Sweep.{codesOf}
 use Rattle.simulate.proofs.Laws.{filled-passable}
 use Rattle.core.proofs.Entry.{list-formed, card-formed}

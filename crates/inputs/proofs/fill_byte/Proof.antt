@@ -1,13 +1,13 @@
--- `changes::fill_byte` meets its contract. The loop's invariant: the first k classes are pasted. Assumes nothing.
+-- `inputs::fill_byte` meets its contract. The loop's invariant: the first k classes are pasted. Assumes nothing.
 use Prim.Native.Nat.{_-_, _≤_}
 use native.Mathlib.Omega.{arith}
 use mathlib.Core.Path.{_≡_, _∙_, ap}
 use lib.ListN.{length}
 use borrow.Author.Needs.{needs}
-use Rattle.changes.specs.Written.{codeIn, written}
-use Rattle.changes.proofs.Laws.{written-none, written-more, written-kept}
-use Rattle.changes.proofs.fill_byte.Statement.{statement}
-use Rattle.changes.proofs.fill_byte.Tie as tie
+use Rattle.inputs.specs.Written.{codeIn, written}
+use Rattle.inputs.proofs.Laws.{written-none, written-more, written-kept}
+use Rattle.inputs.proofs.fill_byte.Statement.{statement}
+use Rattle.inputs.proofs.fill_byte.Tie as tie
 
 abbrev Inv-loop : tie.InvT-loop
 Inv-loop first second count at buffer₀ k₀ buffer k = (k ≤ count) × (buffer ≡ written buffer₀ at (codeIn first second) k)

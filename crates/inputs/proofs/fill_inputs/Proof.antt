@@ -1,14 +1,15 @@
--- `changes::fill_inputs` meets its contract. The loop's invariant: the inputs of the first j bytes are written. Assumes nothing.
+-- `inputs::fill_inputs` meets its contract. The loop's invariant: the inputs of the first j bytes are written. Assumes nothing.
 use Prim.Native.Nat.{_+_, _-_, _*_, _/_, _%_, _≤_}
 use native.Mathlib.Omega.{arith}
 use mathlib.Core.Path.{_≡_, _∙_, ap}
 use lib.ListN.{length}
 use borrow.Author.Needs.{needs}
 use Rattle.changes.specs.Changes.{sizeOf}
-use Rattle.changes.specs.Written.{codeAt, written}
-use Rattle.changes.proofs.Laws.{change-high, written-none, written-kept, written-all, byte-written}
-use Rattle.changes.proofs.fill_inputs.Statement.{statement}
-use Rattle.changes.proofs.fill_inputs.Tie as tie
+use Rattle.changes.proofs.Laws.{change-high}
+use Rattle.inputs.specs.Written.{codeAt, written}
+use Rattle.inputs.proofs.Laws.{written-none, written-kept, written-all, byte-written}
+use Rattle.inputs.proofs.fill_inputs.Statement.{statement}
+use Rattle.inputs.proofs.fill_inputs.Tie as tie
 
 abbrev Inv-loop : tie.InvT-loop
 Inv-loop list t buffer₀ inputs width first second whole j₀ buffer j = (j ≤ whole) × (buffer ≡ written buffer₀ 0 (codeAt list width t) (8 * j))

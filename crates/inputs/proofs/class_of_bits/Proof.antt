@@ -1,11 +1,11 @@
--- `changes::class_of_bits` meets its contract. Assumes nothing.
+-- `inputs::class_of_bits` meets its contract. Assumes nothing.
 use Prim.Native.Nat.{ℕ, _/_, _%_, _^_, _<_}
 use native.Mathlib.Omega.{arith}
 use lib.Bits.{bitXor, xor-lt}
 use borrow.Author.Needs.{needs}
-use Rattle.changes.proofs.Laws.{class-code}
-use Rattle.changes.proofs.class_of_bits.Statement.{statement}
-use Rattle.changes.proofs.class_of_bits.Tie as tie
+use Rattle.inputs.proofs.Laws.{class-code}
+use Rattle.inputs.proofs.class_of_bits.Statement.{statement}
+use Rattle.inputs.proofs.class_of_bits.Tie as tie
 
 low : (x k : ℕ) → x / 2 ^ k % 2 < 2
 low x k = omega arith
