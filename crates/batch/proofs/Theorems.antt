@@ -22,7 +22,7 @@ use Rattle.simulate.proofs.Answers as simulate
 use Rattle.search.specs.Search.{Verdict, clean, hazardous}
 use Rattle.search.specs.Pins.{sumBelow}
 use Rattle.core.specs.Core.{searchOf, answered, guarded, coreAnswer}
-use Rattle.core.specs.Outputs.{verdictByte}
+use Rattle.outputs.specs.Outputs.{verdictByte}
 use Rattle.core.proofs.Entry.{answers}
 use Rattle.core.proofs.Theorems.{pins-within}
 use Rattle.forward.specs.Forward.{touchedIn, visitedIn, forwardBytes}

@@ -27,9 +27,9 @@ use Rattle.core.specs.declared.Cored.the-variants.{Refused}
 use Rattle.visit.specs.Source.{sourceFrom}
 use Rattle.visit.specs.Found.{foundOf}
 use Rattle.visit.specs.Lent.{inputsKnown, SearchReady}
+use Rattle.outputs.specs.Lent.{OutputsReady}
 use Rattle.core.specs.Core.{searchOf, guarded, coreFrom, coreAnswer}
 use Rattle.core.specs.Codes.{guardedFound}
-use Rattle.core.specs.Lent.{OutputsReady}
 use Rattle.core.proofs.Cards.{sources-known, known-length, inputs-only, known-afresh}
 
 drop-replicate : (i m a : ℕ) → drop i (replicate m a) ≡ replicate (m - i) a

@@ -2,4 +2,3 @@ pub mod Cards
 pub mod Entry
 pub mod Rooms
 pub mod Theorems
-pub mod Outputs

@@ -1,4 +1,4 @@
--- What the code finds, as CORE's answer and as an output's byte.
+-- What the code finds, as CORE's answer.
 use Prim.Native.Nat.{ℕ}
 use lib.Dec.{ltb}
 use Rattle.words.specs.Refusal.{refuse}
@@ -15,7 +15,3 @@ answeredBy verdict.Hazardous gates pins = Hazardous gates pins
 
 unfoldable pub guardedFound : (most : ℕ) → Found → Cored
 guardedFound most found = refuse Refused (ltb most (found .pins)) 21 0 (answeredBy (found .verdict) (found .gates) (found .pins))
-
-abbrev pub foundByte : found.Verdict → ℕ
-foundByte (verdict.Clean class) = 0
-foundByte verdict.Hazardous = 1

@@ -1,23 +1,10 @@
--- What CORE's searches are lent.
-use Prim.Native.Nat.{ℕ, _+_, _*_, _≤_, _<_}
+-- What CORE's search is lent.
+use Prim.Native.Nat.{ℕ, _+_}
 use mathlib.Core.Path.{_≡_}
 use mathlib.Core.List.{List}
 use lib.ListN.{length, replicate}
-use Rattle.rows.specs.Rows.{outputIn}
 use Rattle.rows.specs.Lent.{Room}
 use Rattle.netlist.specs.Netlist.{inputsOf, gatesOf}
-use Rattle.netlist.specs.declared.Shape.{Shape}
-use Rattle.changes.specs.Lent.{signalsOf}
-use Rattle.visit.specs.Lent.{SearchReady}
-
--- all outputs can be searched, and there is room for their bytes
-pub record OutputsReady (table rows known : List ℕ) (shape : Shape) (room : ℕ) : Type 0 where
-  pub ready : SearchReady table rows known
-  pub all-known : length known ≡ signalsOf shape
-  pub outputs-high : shape .outputs ≤ 64
-  pub output-below : (o : ℕ) → o < shape .outputs → outputIn rows (signalsOf shape) o < length known
-  pub listed : 9 * signalsOf shape + shape .outputs ≤ length rows
-  pub enough : shape .outputs ≤ room
 
 -- room for any netlist's search: no class is known at first
 pub record SearchRoom (netlist rows known : List ℕ) : Type 0 where

@@ -1,4 +1,3 @@
 pub mod Core
-pub mod Outputs
 pub mod Codes
 pub mod Lent

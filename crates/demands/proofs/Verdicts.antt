@@ -28,7 +28,7 @@ use Rattle.search.specs.Search as definition
 use Rattle.core.specs.Core.{answered, searchOf, coreAnswer}
 use Rattle.core.specs.declared.Cored.the-variants as cored
 use Rattle.core.proofs.Theorems.{core-right}
-use Rattle.core.specs.Outputs.{verdictByte}
+use Rattle.outputs.specs.Outputs.{verdictByte}
 use Rattle.forward.specs.Forward as method
 use Rattle.forward.specs.Forward.{touchedIn, visitedIn, forwardBytes, outputSearch, forwardAnswer, forwardBuffer}
 use Rattle.forward.specs.declared.Forwarded.{Forwarded}

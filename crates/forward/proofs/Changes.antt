@@ -35,8 +35,8 @@ use Rattle.search.specs.Pins.{sumBelow}
 use Rattle.sweep.specs.Sweep.{codesOf, isConstantCode, anyConstant, touchedBy}
 use Rattle.visit.specs.Source.{signalOf, sourceFrom}
 use Rattle.visit.specs.Cells.{Afresh}
-use Rattle.core.specs.Outputs.{verdictByte, searchFrom, byteFrom, sumFrom}
-use Rattle.core.specs.Lent.{OutputsReady}
+use Rattle.outputs.specs.Outputs.{verdictByte, searchFrom, byteFrom, sumFrom}
+use Rattle.outputs.specs.Lent.{OutputsReady}
 use Rattle.cells.proofs.Codes.{code-small}
 use Rattle.core.proofs.Entry.{output-is, outputs-ready}
 use Rattle.simulate.proofs.Laws.{filled-codes, filled-after}

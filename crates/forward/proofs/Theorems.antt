@@ -25,7 +25,7 @@ use Rattle.changes.proofs.Accepted.{listed}
 use Rattle.search.specs.Search as search
 use Rattle.search.specs.Search.{search}
 use Rattle.search.proofs.Known.{search-known}
-use Rattle.core.specs.Outputs.{verdictByte}
+use Rattle.outputs.specs.Outputs.{verdictByte}
 use Rattle.simulate.specs.Full.{classIn}
 use Rattle.simulate.proofs.Theorems.{class-value}
 use Rattle.forward.specs.Constants.{isConstant, follows, spread, knownSources}

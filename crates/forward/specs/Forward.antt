@@ -15,7 +15,7 @@ use Rattle.changes.specs.Changes.{sourcesOf}
 use Rattle.changes.specs.Refusals.{listChecked}
 use Rattle.search.specs.Search.{Answer, search}
 use Rattle.search.specs.Pins.{sumBelow}
-use Rattle.core.specs.Outputs.{verdictByte}
+use Rattle.outputs.specs.Outputs.{verdictByte}
 use Rattle.forward.specs.Constants.{constants, knownSources, touched}
 use Rattle.forward.specs.declared.Forwarded.{Forwarded}
 use Rattle.forward.specs.declared.Forwarded.the-variants.{Done, Refused}

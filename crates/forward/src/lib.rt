@@ -83,7 +83,7 @@ fn forward_in(
             inputs::fill_inputs(list, task, change, known);
             let touched = spread(&table, rows, shape.inputs, shape.gates, known, hot);
             let signals = shape.inputs + shape.gates;
-            let searched = core::search_outputs(
+            let searched = outputs::search_outputs(
                 &search,
                 rows,
                 shape,

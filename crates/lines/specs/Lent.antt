@@ -9,7 +9,7 @@ use Rattle.changes.specs.Lent.{Accepts, signalsOf}
 use Rattle.inputs.specs.Written.{inputCodes}
 use Rattle.sweep.specs.Sweep.{codesOf}
 use Rattle.visit.specs.declared.Found.{Found}
-use Rattle.core.specs.Codes.{foundByte}
+use Rattle.outputs.specs.Codes.{foundByte}
 use Rattle.report.specs.declared.Line.{Line}
 use Rattle.report.specs.Lines.{textOf}
 

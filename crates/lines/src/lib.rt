@@ -40,7 +40,7 @@ pub fn keep_found(lines: &mut [u16], at: usize, class: u8, found: Found)
 {
     let verdict = found.verdict;
     lines[at] = class as u16;
-    lines[at + 1] = core::byte_of(verdict) as u16;
+    lines[at + 1] = outputs::byte_of(verdict) as u16;
     lines[at + 2] = found.gates as u16;
     lines[at + 3] = found.pins as u16;
 }

@@ -10,9 +10,9 @@ use lib.Seq.{getD-set-same, getD-set-other}
 use Rattle.rows.specs.Rows.{outputIn}
 use Rattle.visit.specs.declared.Found.{Found}
 use Rattle.visit.specs.Found.{foundOf}
-use Rattle.core.specs.Outputs.{searchFrom}
-use Rattle.core.specs.Codes.{foundByte}
-use Rattle.core.proofs.Outputs.{byte-code}
+use Rattle.outputs.specs.Outputs.{searchFrom}
+use Rattle.outputs.specs.Codes.{foundByte}
+use Rattle.outputs.proofs.Outputs.{byte-code}
 use Rattle.lines.specs.Lent.{keptAt}
 use Rattle.listing.specs.Lent.{Numbers, Lined}
 

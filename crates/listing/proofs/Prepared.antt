@@ -23,7 +23,7 @@ use Rattle.simulate.proofs.Theorems.{codes-length, codes-at}
 use Rattle.search.specs.Search.{Verdict, clean, hazardous, search}
 use Rattle.visit.specs.Lent.{inputsKnown}
 use Rattle.core.specs.Core.{searchOf}
-use Rattle.core.specs.Outputs.{verdictByte, searchFrom}
+use Rattle.outputs.specs.Outputs.{verdictByte, searchFrom}
 use Rattle.core.proofs.Entry as entry
 use Rattle.core.proofs.Theorems.{pins-within, gates-within}
 use Rattle.report.specs.Text.{verdictLine}

@@ -4,7 +4,7 @@ use mathlib.Core.Path.{_≡_}
 use mathlib.Core.List.{List}
 use lib.ListN.{getD}
 use Rattle.rows.specs.Rows.{outputIn}
-use Rattle.core.specs.Outputs.{searchFrom, byteFrom}
+use Rattle.outputs.specs.Outputs.{searchFrom, byteFrom}
 
 -- the four numbers of output o say its class and what its search finds
 pub record Numbers (rows known classes : List ℕ) (n : ℕ) (lines : List ℕ) (o : ℕ) : Type 0 where

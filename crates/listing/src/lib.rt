@@ -3,13 +3,13 @@ ghost use mathlib.Core.Path.{_≡_};
 ghost use Prim.Native.Nat.{_≤_, _<_};
 ghost use lib.ListN.{length};
 ghost use Rattle.changes.specs.Lent.{Accepts, signalsOf};
-ghost use Rattle.core.specs.Lent.{OutputsReady};
+ghost use Rattle.outputs.specs.Lent.{OutputsReady};
 ghost use Rattle.listing.specs.Pieces.{pieceOf, Written};
 ghost use Rattle.listing.specs.Lent.{Lined};
 use changes::Listed;
 use changes::Task;
-use core::CLEAN_SET;
 use netlist::Shape;
+use outputs::CLEAN_SET;
 
 // The most bytes of the first line.
 const LINE: usize = 64;

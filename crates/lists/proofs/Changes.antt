@@ -32,10 +32,10 @@ use Rattle.search.specs.Search.{Answer, search}
 use Rattle.search.specs.Pins.{sumBelow}
 use Rattle.visit.specs.Lent.{inputsKnown}
 use Rattle.core.specs.Core.{searchOf}
-use Rattle.core.specs.Outputs.{verdictByte, searchFrom, byteFrom, sumFrom}
-use Rattle.core.specs.Lent.{OutputsReady}
+use Rattle.outputs.specs.Outputs.{verdictByte, searchFrom, byteFrom, sumFrom}
+use Rattle.outputs.specs.Lent.{OutputsReady}
 use Rattle.core.proofs.Entry.{known-all, ready, output-is, outputs-ready, search-is}
-use Rattle.core.proofs.Outputs.{search-few}
+use Rattle.outputs.proofs.Outputs.{search-few}
 use Rattle.core.proofs.Theorems.{pins-within, gates-within}
 use Rattle.forward.specs.Constants.{isKnown, touched}
 use Rattle.forward.proofs.Changes.{sum-ext, tab-ext}

@@ -7,7 +7,7 @@ use Rattle.simulate.specs.Full.{codes}
 use Rattle.search.specs.Search.{Answer}
 use Rattle.search.specs.Pins.{sumBelow}
 use Rattle.core.specs.Core.{searchOf}
-use Rattle.core.specs.Outputs.{verdictByte}
+use Rattle.outputs.specs.Outputs.{verdictByte}
 use Rattle.forward.specs.Forward.{touchedIn, visitedIn, forwardBytes}
 use Rattle.lists.specs.declared.Judged.{Judged}
 use Rattle.lists.specs.declared.Judged.the-variants.{Done}

@@ -77,7 +77,7 @@ pub fn forward_rows(
         let at = change * outputs;
         inputs::fill_inputs(list, task, change, known);
         touched += forward::spread(&table, rows, shape.inputs, shape.gates, known, hot);
-        let searched = core::search_outputs(
+        let searched = outputs::search_outputs(
             &search,
             rows,
             shape,
@@ -117,7 +117,7 @@ pub fn core_rows(
     for change in 0..task.changes {
         let at = change * outputs;
         inputs::fill_inputs(list, task, change, known);
-        let searched = core::search_outputs(
+        let searched = outputs::search_outputs(
             &search,
             rows,
             shape,

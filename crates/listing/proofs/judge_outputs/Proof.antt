@@ -10,7 +10,7 @@ use Rattle.visit.specs.declared.Found.{Found}
 use Rattle.visit.specs.Source.{sourceFrom}
 use Rattle.visit.specs.Found.{foundOf}
 use Rattle.visit.specs.Lent.{SearchReady}
-use Rattle.core.proofs.Outputs.{found-is, found-few}
+use Rattle.outputs.proofs.Outputs.{found-is, found-few}
 use Rattle.listing.specs.Lent.{Lined}
 use Rattle.listing.proofs.Lines.{lined-more}
 use borrow.Author.Needs.{needs}

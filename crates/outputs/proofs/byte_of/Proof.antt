@@ -1,7 +1,7 @@
--- `core::byte_of` meets its contract, verdict by verdict. Assumes nothing.
+-- `outputs::byte_of` meets its contract, verdict by verdict. Assumes nothing.
 use borrow.Author.Needs.{needs}
-use Rattle.core.proofs.byte_of.Statement.{statement}
-use Rattle.core.proofs.byte_of.Tie as tie
+use Rattle.outputs.proofs.byte_of.Statement.{statement}
+use Rattle.outputs.proofs.byte_of.Tie as tie
 
 enum-told : tie.Need-enum-told
 enum-told c = search needs

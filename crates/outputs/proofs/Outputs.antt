@@ -26,8 +26,8 @@ use Rattle.visit.specs.Found.{foundOf, verdictCode}
 use Rattle.visit.specs.Lent.{SearchReady}
 use Rattle.visit.specs.declared.Found.{Found}
 use Rattle.visit.proofs.Sources.{source-given, source-gate}
-use Rattle.core.specs.Outputs.{verdictByte, searchFrom, byteFrom, sumFrom}
-use Rattle.core.specs.Codes.{foundByte}
+use Rattle.outputs.specs.Outputs.{verdictByte, searchFrom, byteFrom, sumFrom}
+use Rattle.outputs.specs.Codes.{foundByte}
 
 -- a search visits no more gates than it has cells
 visited-few : (cells : List ℕ) → gatesVisited cells ≤ length cells

@@ -1,4 +1,4 @@
--- `core::search_outputs` meets its contract. The loop's invariant: the first outputs are searched, their bytes written, their gates and pins summed, and
+-- `outputs::search_outputs` meets its contract. The loop's invariant: the first outputs are searched, their bytes written, their gates and pins summed, and
 -- what is known stays. Assumes nothing.
 use Prim.Native.Nat.{_-_, _*_, _≤_}
 use native.Mathlib.Omega.{arith}
@@ -11,11 +11,11 @@ use Rattle.search.specs.Search as spec
 use Rattle.visit.specs.Source.{sourceFrom}
 use Rattle.visit.specs.Found.{foundOf}
 use Rattle.visit.specs.Lent.{SearchReady}
-use Rattle.core.specs.Outputs.{byteFrom, sumFrom}
-use Rattle.core.proofs.Outputs.{found-is, found-few, found-next, found-byte}
+use Rattle.outputs.specs.Outputs.{byteFrom, sumFrom}
+use Rattle.outputs.proofs.Outputs.{found-is, found-few, found-next, found-byte}
 use borrow.Author.Needs.{needs}
-use Rattle.core.proofs.search_outputs.Statement.{statement}
-use Rattle.core.proofs.search_outputs.Tie as tie
+use Rattle.outputs.proofs.search_outputs.Statement.{statement}
+use Rattle.outputs.proofs.search_outputs.Tie as tie
 
 abbrev Inv-loop : tie.InvT-loop
 Inv-loop table rows known₀ buffer₀ signals gates₀ pins₀ output₀ output-end known buffer gates pins output =
