@@ -18,8 +18,8 @@ use Rattle.words.specs.Words.{wordAt, wordsAt}
 use Rattle.words.proofs.Laws.{words-length, words-at}
 use Rattle.rows.specs.Rows.{countIn, pinIn, wordIn, kindIn, rowPins, cardIn, wordFor, outputIn}
 use Rattle.rows.specs.Lent.{GateRow}
-use Rattle.rows.specs.Making.{rowPin, rowAt, putAt}
-use Rattle.rows.proofs.Making.{tab-length, row-length, row-pin, pin-own, pin-past, length-put, put-own, put-before}
+use Rattle.making.specs.Making.{rowPin, rowAt, putAt}
+use Rattle.making.proofs.Making.{tab-length, row-length, row-pin, pin-own, pin-past, length-put, put-own, put-before}
 use Rattle.rows.proofs.Told.{Takes, word-count, word-kind}
 use Rattle.records.specs.Records.{kindAt, countAt, pinAt, leastPins, mostPins}
 use Rattle.records.specs.Reading.{wordOf}

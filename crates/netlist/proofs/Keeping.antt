@@ -5,7 +5,7 @@ use mathlib.Core.Bool.{false}
 use mathlib.Core.List.{List}
 use borrow.Author.Tests.{lt-ltb}
 use Rattle.words.specs.Words.{wordsAt}
-use Rattle.rows.specs.Making.{putAt}
+use Rattle.making.specs.Making.{putAt}
 use Rattle.netlist.specs.declared.Checked.{Checked}
 use Rattle.netlist.specs.declared.Checked.the-variants.{Refused}
 use Rattle.netlist.specs.Netlist.{inputsOf, gatesOf, outputsOf, entriesAt, accepted}

@@ -7,8 +7,8 @@ use mathlib.Core.Path.{_≡_, refl, _∙_, ap}
 use mathlib.Core.Bool.{true, false}
 use mathlib.Core.List.{List, [], _∷_, _++_}
 use lib.ListN.{length}
-use Rattle.rows.specs.Making.{rowAt, putAt}
-use Rattle.rows.proofs.Making.{length-put}
+use Rattle.making.specs.Making.{rowAt, putAt}
+use Rattle.making.proofs.Making.{length-put}
 use Rattle.records.specs.Records.{countAt}
 use Rattle.records.specs.Reading.{wordOf}
 use Rattle.netlist.specs.declared.Checked.{Checked}

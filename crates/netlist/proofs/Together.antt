@@ -11,8 +11,8 @@ use lib.ListN.{length, getD}
 use Rattle.kung.specs.Rule.{each}
 use Rattle.words.specs.Words.{wordAt}
 use Rattle.words.proofs.Refusal.{pass}
-use Rattle.rows.specs.Making.{ownAt}
-use Rattle.rows.proofs.Making.{own-length, own-pin}
+use Rattle.making.specs.Making.{ownAt}
+use Rattle.making.proofs.Making.{own-length, own-pin}
 use Rattle.netlist.specs.declared.Checked.{Checked}
 use Rattle.netlist.specs.Netlist.{wordsBelow}
 

@@ -8,7 +8,7 @@ use lib.ListN.{length}
 use Rattle.words.specs.Words.{wordsAt}
 use Rattle.rows.specs.Rows.{rowKind, rowPins, outputIn}
 use Rattle.rows.specs.Lent.{GateRow}
-use Rattle.rows.specs.Making.{rowAt, putAt}
+use Rattle.making.specs.Making.{rowAt, putAt}
 use Rattle.records.specs.Records.{countAt}
 use Rattle.records.specs.Reading.{wordOf}
 use Rattle.netlist.specs.declared.Checked.{Checked}

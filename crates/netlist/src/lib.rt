@@ -3,7 +3,7 @@ ghost use mathlib.Core.Path.{_≡_};
 ghost use Prim.Native.Nat.{_+_, _*_, _≤_};
 ghost use lib.ListN.{length};
 ghost use Rattle.words.specs.Words.{wordsAt};
-ghost use Rattle.rows.specs.Making.{putAt};
+ghost use Rattle.making.specs.Making.{putAt};
 ghost use Rattle.netlist.specs.Netlist.{inputsOf, gatesOf, pinTotal, entriesAt};
 ghost use Rattle.netlist.specs.Netlist.{counts, outputs, accepted, body, bodyWithin, checked};
 ghost use Rattle.netlist.specs.Decoded.{rowsFrom, withOutputs, decodedBy, decoded};
@@ -83,7 +83,7 @@ fn check_records(s: &[u8], rows: &mut [u16]) -> Checked
 {
     let inputs = word_at(s, 5) as usize;
     let gates = word_at(s, 7) as usize;
-    let window = rows::WINDOW;
+    let window = making::WINDOW;
     let meanings = records::meaning_table();
     let mut gate: usize = 0;
     let mut at: usize = 11;
@@ -96,10 +96,10 @@ fn check_records(s: &[u8], rows: &mut [u16]) -> Checked
         match records::fit_at(s, &meanings, at) {
             Fit::Other => {}
             Fit::Pins(count, word) => {
-                let own = rows::own_in(s, &window, at + 2, count);
-                if rows::are_below(own, signal as u16) {
-                    let row = rows::row_in(s, &window, at + 2, count);
-                    rows::keep_row(rows, signal, row, word);
+                let own = making::own_in(s, &window, at + 2, count);
+                if making::are_below(own, signal as u16) {
+                    let row = making::row_in(s, &window, at + 2, count);
+                    making::keep_row(rows, signal, row, word);
                     pins += count;
                     at = at + 2 + 2 * count;
                     gate += 1;
@@ -121,8 +121,8 @@ fn check_records(s: &[u8], rows: &mut [u16]) -> Checked
                     }
                     k += 1;
                 }
-                let row = rows::row_short(s, at + 2, count);
-                rows::keep_row(rows, signal, row, word);
+                let row = making::row_short(s, at + 2, count);
+                making::keep_row(rows, signal, row, word);
                 pins += count;
                 at = at + 2 + 2 * count;
                 gate += 1;

@@ -10,7 +10,7 @@ use lib.Dec.{ltb}
 use lib.ListN.{length}
 use Rattle.kung.specs.Rule.{each}
 use Rattle.kung.specs.Tables.{tab}
-use Rattle.rows.specs.Making.{ones, putAt}
+use Rattle.making.specs.Making.{ones, putAt}
 use Rattle.records.specs.declared.Head.the-variants.{Pins}
 use Rattle.records.specs.Reading.{headAt}
 use Rattle.records.proofs.Heads.{HeadTold, head-told, fit-head}

@@ -7,7 +7,7 @@ use lib.ListN.{length}
 use lib.Seq.{paste, paste-zero, length-paste}
 use Rattle.words.specs.Words.{wordsAt}
 use Rattle.words.proofs.Laws.{words-length, words-at}
-use Rattle.rows.proofs.Making.{put-out, paste-more, paste-end}
+use Rattle.making.proofs.Making.{put-out, paste-more, paste-end}
 use borrow.Author.Needs.{needs}
 use Rattle.netlist.proofs.keep_words.Statement.{statement}
 use Rattle.netlist.proofs.keep_words.Tie as tie

@@ -3,7 +3,7 @@ use Prim.Native.Nat.{_-_, _≤_}
 use native.Mathlib.Omega.{arith}
 use mathlib.Core.Path.{_≡_, refl, _∙_, ap}
 use lib.ListN.{length, length-set}
-use Rattle.rows.proofs.Making.{Filled, filled-more, filled-all}
+use Rattle.making.proofs.Making.{Filled, filled-more, filled-all}
 use Rattle.records.specs.Meaning.{meaningOf, meaningWord, meaningTable}
 use Rattle.records.proofs.Meanings.{meaning-low}
 use borrow.Author.Needs.{needs}

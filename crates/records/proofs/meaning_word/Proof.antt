@@ -2,7 +2,7 @@
 use Prim.Native.Nat.{_≤_}
 use native.Mathlib.Omega.{arith}
 use mir.Val.{boolByte}
-use Rattle.rows.proofs.Making.{byte-low}
+use Rattle.making.proofs.Making.{byte-low}
 use Rattle.records.specs.Meaning.{meaningWord}
 use borrow.Author.Needs.{needs}
 use Rattle.records.proofs.meaning_word.Statement.{statement}

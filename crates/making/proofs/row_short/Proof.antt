@@ -5,11 +5,11 @@ use mathlib.Core.Path.{_≡_, refl, _∙_, ap}
 use lib.ListN.{length, getD, length-set, getD-replicate}
 use lib.Seq.{getD-set-other}
 use Rattle.words.specs.Words.{wordAt}
-use Rattle.rows.specs.Making.{rowPin}
-use Rattle.rows.proofs.Making.{Filled, filled-more, filled-rest, row-all, pin-own}
+use Rattle.making.specs.Making.{rowPin}
+use Rattle.making.proofs.Making.{Filled, filled-more, filled-rest, row-all, pin-own}
 use borrow.Author.Needs.{needs}
-use Rattle.rows.proofs.row_short.Statement.{statement}
-use Rattle.rows.proofs.row_short.Tie as tie
+use Rattle.making.proofs.row_short.Statement.{statement}
+use Rattle.making.proofs.row_short.Tie as tie
 
 abbrev Inv-loop : tie.InvT-loop
 Inv-loop s at count last row₀ j₀ row j =

@@ -5,11 +5,11 @@ use mathlib.Core.Path.{_≡_, refl, _∙_, ap}
 use mathlib.Core.List.{List}
 use lib.ListN.{length, getD, length-set}
 use Rattle.words.specs.Words.{wordAt}
-use Rattle.rows.specs.Making.{rowPin}
-use Rattle.rows.proofs.Making.{Filled, filled-more, row-all, ones-low, window-pin}
+use Rattle.making.specs.Making.{rowPin}
+use Rattle.making.proofs.Making.{Filled, filled-more, row-all, ones-low, window-pin}
 use borrow.Author.Needs.{needs}
-use Rattle.rows.proofs.row_in.Statement.{statement}
-use Rattle.rows.proofs.row_in.Tie as tie
+use Rattle.making.proofs.row_in.Statement.{statement}
+use Rattle.making.proofs.row_in.Tie as tie
 
 abbrev Inv-loop : tie.InvT-loop
 Inv-loop s window at count last row₀ j₀ row j = (j ≤ 8) × (length row ≡ 8) × Filled (rowPin s at count) row j

@@ -18,7 +18,7 @@ use Rattle.kung.specs.Tables.{tab}
 use Rattle.kung.proofs.Listed.{getD-tab}
 use Rattle.kung.proofs.Unions.{eqb-bit}
 use Rattle.words.specs.Words.{wordAt}
-use Rattle.rows.specs.Making.{rowPin, rowAt, ownPin, ownAt, ones, putAt}
+use Rattle.making.specs.Making.{rowPin, rowAt, ownPin, ownAt, ones, putAt}
 
 pub tab-length : (f : ℕ → ℕ) (i n : ℕ) → length (tab f i n) ≡ n
 unfolding tab

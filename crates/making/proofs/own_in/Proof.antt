@@ -4,11 +4,11 @@ use native.Mathlib.Omega.{arith}
 use mathlib.Core.Path.{_≡_, refl, _∙_, ap}
 use mathlib.Core.List.{List}
 use lib.ListN.{length, getD, length-set}
-use Rattle.rows.specs.Making.{ownPin}
-use Rattle.rows.proofs.Making.{Filled, filled-more, own-all, ones-low, window-zero}
+use Rattle.making.specs.Making.{ownPin}
+use Rattle.making.proofs.Making.{Filled, filled-more, own-all, ones-low, window-zero}
 use borrow.Author.Needs.{needs}
-use Rattle.rows.proofs.own_in.Statement.{statement}
-use Rattle.rows.proofs.own_in.Tie as tie
+use Rattle.making.proofs.own_in.Statement.{statement}
+use Rattle.making.proofs.own_in.Tie as tie
 
 abbrev Inv-loop : tie.InvT-loop
 Inv-loop s window at count own₀ j₀ own j = (j ≤ 8) × (length own ≡ 8) × Filled (ownPin s at count) own j

@@ -5,9 +5,9 @@ use mathlib.Core.Path.{_≡_, sym}
 use mathlib.Core.List.{[], _∷_}
 use lib.ListN.{length, length-append}
 use borrow.Author.Needs.{needs}
-use Rattle.rows.proofs.Making.{put-out, put-more}
-use Rattle.rows.proofs.keep_row.Statement.{statement}
-use Rattle.rows.proofs.keep_row.Tie as tie
+use Rattle.making.proofs.Making.{put-out, put-more}
+use Rattle.making.proofs.keep_row.Statement.{statement}
+use Rattle.making.proofs.keep_row.Tie as tie
 
 long : (c : tie.Start) → length (c .args .row) ≡ 8
 long c = c .good .1 .1 .0 .1 .0 .1

@@ -6,10 +6,10 @@ use mathlib.Core.Bool.{_&&_}
 use lib.Dec.{eqb, leb, ltb}
 use lib.ListN.{getD, drop}
 use Rattle.kung.specs.Rule.{each}
-use Rattle.rows.proofs.Making.{or-low, below-more-high, below-end}
+use Rattle.making.proofs.Making.{or-low, below-more-high, below-end}
 use borrow.Author.Needs.{needs}
-use Rattle.rows.proofs.are_below.Statement.{statement}
-use Rattle.rows.proofs.are_below.Tie as tie
+use Rattle.making.proofs.are_below.Statement.{statement}
+use Rattle.making.proofs.are_below.Tie as tie
 
 abbrev Inv-loop : tie.InvT-loop
 Inv-loop bound row high₀ j₀ high j =

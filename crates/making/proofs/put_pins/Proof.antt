@@ -4,10 +4,10 @@ use native.Mathlib.Omega.{arith}
 use mathlib.Core.Path.{_≡_, refl, _∙_, ap}
 use lib.ListN.{length}
 use lib.Seq.{paste, paste-zero, length-paste}
-use Rattle.rows.proofs.Making.{paste-more, paste-end}
+use Rattle.making.proofs.Making.{paste-more, paste-end}
 use borrow.Author.Needs.{needs}
-use Rattle.rows.proofs.put_pins.Statement.{statement}
-use Rattle.rows.proofs.put_pins.Tie as tie
+use Rattle.making.proofs.put_pins.Statement.{statement}
+use Rattle.making.proofs.put_pins.Tie as tie
 
 abbrev Inv-loop : tie.InvT-loop
 Inv-loop rows₀ base row j₀ rows j = (j ≤ 8) × (rows ≡ paste rows₀ base row j)

@@ -2,9 +2,9 @@
 use Prim.Native.Nat.{ℕ, zero, suc, _+_, _-_, _*_, _≤_}
 use native.Mathlib.Omega.{arith}
 use borrow.Author.Needs.{needs}
-use Rattle.rows.proofs.Making.{picked}
-use Rattle.rows.proofs.pick.Statement.{statement}
-use Rattle.rows.proofs.pick.Tie as tie
+use Rattle.making.proofs.Making.{picked}
+use Rattle.making.proofs.pick.Statement.{statement}
+use Rattle.making.proofs.pick.Tie as tie
 
 -- neither product is more than its number
 fits : (own a b n : ℕ) → own ≤ 1 → a ≤ n → b ≤ n → (own * a ≤ n) × ((1 - own) * b ≤ n) × (own * a + (1 - own) * b ≤ n)
