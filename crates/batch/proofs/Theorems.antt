@@ -25,7 +25,8 @@ use Rattle.core.specs.Core.{searchOf, answered, guarded, coreAnswer}
 use Rattle.outputs.specs.Outputs.{verdictByte}
 use Rattle.core.proofs.Entry.{answers}
 use Rattle.core.proofs.Theorems.{pins-within}
-use Rattle.forward.specs.Forward.{touchedIn, visitedIn, forwardBytes}
+use Rattle.constants.specs.Change.{touchedIn}
+use Rattle.forward.specs.Forward.{visitedIn, forwardBytes}
 use Rattle.forward.proofs.Answers as forward
 use Rattle.lists.specs.declared.Judged.the-variants.{Done, Refused}
 use Rattle.lists.specs.Methods.{rows, coreBytes, coreSum, Method, doneFor}

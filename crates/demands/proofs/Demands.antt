@@ -26,8 +26,9 @@ use Rattle.core.specs.Core.{answered, guarded, searchOf, coreFrom, coreAnswer}
 use Rattle.core.specs.declared.Cored.{Cored}
 use Rattle.core.specs.declared.Cored.the-variants as cored
 use Rattle.core.proofs.Theorems.{pins-within}
+use Rattle.constants.specs.Change.{touchedIn}
 use Rattle.forward.specs.Forward as forward
-use Rattle.forward.specs.Forward.{touchedIn, visitedIn, forwardAnswer, forwardBuffer}
+use Rattle.forward.specs.Forward.{visitedIn, forwardAnswer, forwardBuffer}
 use Rattle.forward.specs.declared.Forwarded.the-variants as forwarded
 use Rattle.bench.specs.Claim.{Claim}
 use Rattle.bench.proofs.Theorem.{holds}

@@ -29,8 +29,9 @@ use Rattle.core.specs.Core.{answered, searchOf, coreAnswer}
 use Rattle.core.specs.declared.Cored.the-variants as cored
 use Rattle.core.proofs.Theorems.{core-right}
 use Rattle.outputs.specs.Outputs.{verdictByte}
+use Rattle.constants.specs.Change.{touchedIn}
 use Rattle.forward.specs.Forward as method
-use Rattle.forward.specs.Forward.{touchedIn, visitedIn, forwardBytes, outputSearch, forwardAnswer, forwardBuffer}
+use Rattle.forward.specs.Forward.{visitedIn, forwardBytes, outputSearch, forwardAnswer, forwardBuffer}
 use Rattle.forward.specs.declared.Forwarded.{Forwarded}
 use Rattle.forward.specs.declared.Forwarded.the-variants as forwarded
 use Rattle.forward.proofs.Theorems.{forward-clean}

@@ -25,7 +25,8 @@ use Rattle.simulate.specs.declared.Simulated.the-variants as simulated
 use Rattle.core.specs.Core.{answered, searchOf, coreAnswer}
 use Rattle.core.specs.declared.Cored.{Cored}
 use Rattle.core.specs.declared.Cored.the-variants as cored
-use Rattle.forward.specs.Forward.{touchedIn, visitedIn, forwardAnswer, forwardBuffer}
+use Rattle.constants.specs.Change.{touchedIn}
+use Rattle.forward.specs.Forward.{visitedIn, forwardAnswer, forwardBuffer}
 use Rattle.forward.specs.declared.Forwarded.the-variants as forwarded
 use Rattle.walk.specs.declared.Walk.{Walk}
 use Rattle.walk.specs.Walk.{part, handed, stepped, opened, HandsBack}

@@ -12,8 +12,9 @@ use Rattle.changes.specs.declared.Listed.the-variants as list
 use Rattle.changes.specs.Refusals.{listChecked}
 use Rattle.changes.proofs.Accepted.{listed}
 use Rattle.inputs.proofs.Laws.{tab-length}
+use Rattle.constants.specs.Change.{touchedIn}
 use Rattle.forward.specs.declared.Forwarded.the-variants.{Done, Refused}
-use Rattle.forward.specs.Forward.{touchedIn, forwardBytes, visitedIn, forwardFrom, forwardAnswer, forwardBuffer}
+use Rattle.forward.specs.Forward.{forwardBytes, visitedIn, forwardFrom, forwardAnswer, forwardBuffer}
 
 module _ (n l : List ℕ) (change : ℕ) (buffer : List ℕ) where
   pub refused-list : (number place : ℕ) → listChecked n l ≡ list.Refused number place

@@ -19,10 +19,11 @@ use Rattle.search.specs.Search.{search, visit, takePins, takePin, driverOf, che
 use Rattle.search.specs.Search as search
 use Rattle.search.specs.Pins.{sumBelow}
 use Rattle.simulate.proofs.Cases.{muxNetlist, muxList}
+use Rattle.constants.specs.Constants.{allKnown, follows, spread, knownSources, touched}
+use Rattle.constants.specs.Change.{touchedIn}
 use Rattle.forward.specs.declared.Forwarded.the-variants.{Done}
 use Rattle.forward.specs.declared.Forwarded.{Forwarded}
-use Rattle.forward.specs.Constants.{allKnown, follows, spread, knownSources, touched}
-use Rattle.forward.specs.Forward.{touchedIn, outputSearch, forwardBytes, visitedIn, forwardFrom, forwardAnswer, forwardBuffer}
+use Rattle.forward.specs.Forward.{outputSearch, forwardBytes, visitedIn, forwardFrom, forwardAnswer, forwardBuffer}
 
 -- the answer, and the buffer of two bytes after it
 called : (netlist list : List ℕ) → Forwarded × List ℕ

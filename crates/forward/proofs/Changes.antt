@@ -3,22 +3,21 @@ use Prim.Native.Nat.{ℕ, zero, suc, _+_, _-_, _≤_, _<_}
 use native.Mathlib.Omega.{arith}
 use native.Mathlib.Decide.{decLt}
 use mathlib.Core.Path.{_≡_, refl, sym, _∙_, ap, ap₂, fun-ext}
-use mathlib.Core.Bool.{Bool, true, false, cond, _||_, Bool·beq}
-use mathlib.Core.List.{List, [], _∷_, _++_}
+use mathlib.Core.Bool.{Bool, true, false, cond}
+use mathlib.Core.List.{List, _∷_, _++_}
 use mathlib.Core.Option.{none, some}
 use lib.Dec.{ltb}
 use lib.ListN.{length, getD, take, drop, length-append, length-drop, List·getD-append, List·getD-eq-default}
 use lib.Seq.{getD-take, length-take-le}
 use borrow.Author.Tests.{lt-ltb}
 use Rattle.kung.specs.Class.{Class, c0, code, ofCode}
-use Rattle.kung.specs.Rule as rule
 use Rattle.kung.specs.Rule.{gateClass}
-use Rattle.kung.specs.Sets.{bit, cleanSet}
+use Rattle.kung.specs.Sets.{cleanSet}
 use Rattle.kung.specs.Tables.{tab}
 use Rattle.kung.specs.Lookup.{searchTable}
-use Rattle.kung.proofs.Finite.{everyClass, class-at, beq→≡, ofCode-code}
-use Rattle.circuit.specs.Circuit.{Source, given, gate, outOf, Each, value}
-use Rattle.circuit.proofs.Laws.{each-map, value-law, sources-cases}
+use Rattle.kung.proofs.Finite.{ofCode-code}
+use Rattle.circuit.specs.Circuit.{Source, given, gate, outOf, value}
+use Rattle.circuit.proofs.Laws.{value-law, sources-cases}
 use Rattle.rows.specs.Rows.{rowKind, rowPins}
 use Rattle.rows.specs.Lent.{GateRow}
 use Rattle.netlist.specs.Netlist.{inputsOf, gatesOf, gateKind, gatePins, cardOf}
@@ -32,7 +31,7 @@ use Rattle.inputs.specs.Written.{inputCodes, written}
 use Rattle.inputs.proofs.Laws.{written-all, written-kept}
 use Rattle.search.specs.Search.{search}
 use Rattle.search.specs.Pins.{sumBelow}
-use Rattle.sweep.specs.Sweep.{codesOf, isConstantCode, anyConstant, touchedBy}
+use Rattle.sweep.specs.Sweep.{codesOf, isConstantCode, touchedBy}
 use Rattle.visit.specs.Source.{signalOf, sourceFrom}
 use Rattle.visit.specs.Cells.{Afresh}
 use Rattle.outputs.specs.Outputs.{verdictByte, searchFrom, byteFrom, sumFrom}
@@ -41,23 +40,15 @@ use Rattle.cells.proofs.Codes.{code-small}
 use Rattle.core.proofs.Entry.{output-is, outputs-ready}
 use Rattle.simulate.proofs.Laws.{filled-codes, filled-after}
 use Rattle.simulate.specs.Full.{classIn, codes}
-use Rattle.simulate.proofs.Theorems.{class-value, codes-length, codes-at}
-use Rattle.forward.specs.Constants.{isConstant, constantOf, isKnown, orKnown, knownSources, touched}
-use Rattle.forward.specs.Forward.{constantsIn, touchedIn, outputSearch, forwardBytes, visitedIn}
+use Rattle.simulate.proofs.Theorems.{class-value, codes-length}
+use Rattle.constants.specs.Constants.{isConstant, constantOf, orKnown, knownSources}
+use Rattle.constants.specs.Change.{touchedIn}
+use Rattle.constants.proofs.Constants.{known-given}
+use Rattle.constants.proofs.Theorems.{falling}
+use Rattle.constants.proofs.Touched.{sum-ext, constant-code, signals-are, codes-below, constant-is, touched-is}
+use Rattle.forward.specs.Forward.{outputSearch, forwardBytes, visitedIn}
 use Rattle.forward.specs.Known.{knownOr8, knownCodes, sweptCodes}
-use Rattle.forward.proofs.Constants.{spread-is, known-given}
-use Rattle.forward.proofs.Theorems.{falling}
 use Rattle.forward.proofs.Bytes.{written-below, written-at}
-
-some-ext : (f g : ℕ → Bool) (xs : List ℕ) → Each (λ x. f x ≡ g x) xs → rule.some f xs ≡ rule.some g xs
-unfolding rule.some
-some-ext f g [] h = refl
-some-ext f g (x ∷ xs) h = ap₂ _||_ (h .0) (some-ext f g xs (h .1))
-
-pub sum-ext : (f g : ℕ → ℕ) (n : ℕ) → ((k : ℕ) → k < n → f k ≡ g k) → sumBelow f n ≡ sumBelow g n
-unfolding sumBelow
-sum-ext f g zero h = refl
-sum-ext f g (suc n) h = ap₂ _+_ (h n (omega arith)) (sum-ext f g n (λ k less. h k (omega arith)))
 
 tab-from : (f g : ℕ → ℕ) (i m : ℕ) → ((k : ℕ) → k < m → f (i + k) ≡ g (i + k)) → tab f i m ≡ tab g i m
 unfolding tab
@@ -68,17 +59,6 @@ tab-from f g i (suc m) h =
 
 pub tab-ext : (f g : ℕ → ℕ) (n : ℕ) → ((k : ℕ) → k < n → f k ≡ g k) → tab f 0 n ≡ tab g 0 n
 tab-ext f g n h = tab-from f g 0 n (λ k less. let e : 0 + k ≡ k = omega arith in rw e (h k less))
-
-constant-code : (k : Class) → isConstantCode (code k) ≡ isConstant k
-unfolding everyClass
-constant-code k = beq→≡ _ _ (class-at (λ k. Bool·beq (isConstantCode (code k)) (isConstant k)) tt k)
-
-known-constant : (k : Class) → isConstant k ≡ isKnown (constantOf k)
-known-constant k = go (isConstant k)
-  where
-    go : (b : Bool) → b ≡ isKnown (cond b (some k) none)
-    go true = refl
-    go false = refl
 
 -- a byte is read as its class, or as the gate that stands there
 abbrev read : ℕ → Source Class → Source Class
@@ -118,38 +98,14 @@ module _ (n l rows : List ℕ) (task : Task) (a : Accepts n l rows task) (t : �
   unfolding sweptCodes
   swept-is = ap₂ _++_ (filled-codes n l rows task a t old) (filled-after n l rows task a t old)
 
-  signals-are : inputsOf n + gatesOf n ≡ i + g
-  signals-are = omega (arith, f .inputs-are, f .gates-are)
+  all-signals : inputsOf n + gatesOf n ≡ i + g
+  all-signals = signals-are n l rows task a t
 
   codes-few : length (codes n l t) ≡ i + g
-  codes-few = codes-length n l t ∙ signals-are
-
-  codes-below : (s : ℕ) → s < i + g → getD (codes n l t) s 0 ≡ code (classIn n l t s)
-  codes-below s h = codes-at n l t s (rw signals-are h)
+  codes-few = codes-length n l t ∙ all-signals
 
   swept-below : (s : ℕ) → s < i + g → getD swept s 0 ≡ code (classIn n l t s)
-  swept-below s h = List·getD-append (codes n l t) (drop (i + g) old) 0 s (rw codes-few h) ∙ codes-below s h
-
-  constant-is : (s : ℕ) → s < i + g → constantsIn n l t s ≡ constantOf (classIn n l t s)
-  constant-is s h =
-      spread-is (sourcesOf n l t) (falling n l (a .accepted) t) (inputsOf n + gatesOf n) s (rw signals-are h) ∙ ap constantOf (sym (class-value n l t s))
-
-  -- the touched count
-  pub touched-is : touchedBy rows (codesOf rows filled i g (i + g)) i g ≡ touchedIn n l t
-  unfolding touchedBy anyConstant touchedIn touched cardOf
-  touched-is =
-      sum-ext _ _ g (λ h below.
-      ap bit (ap (rule.some _) (pins h below) ∙ some-ext _ _ (gatePins n h)
-      (each-map (λ x (less : x < inputsOf n + h). known x (omega (arith, f .inputs-are))) (gatePins n h) (f .well-formed h (omega (arith, f .gates-are))))))
-      ∙ ap (sumBelow _) (f .gates-are)
-    where
-      pins : (h : ℕ) → h < g → rowPins rows (i + h) ≡ gatePins n h
-      pins h below = ap (λ m. rowPins rows (m + h)) (f .inputs-are) ∙ a .decoded .pins-are h (omega (arith, f .gates-are))
-
-      known : (x : ℕ) → x < i + g → isConstantCode (getD (codesOf rows filled i g (i + g)) x 0) ≡ isKnown (constantsIn n l t x)
-      known x h =
-          ap (λ c. isConstantCode (getD c x 0)) (filled-codes n l rows task a t old) ∙ ap isConstantCode (codes-below x h)
-          ∙ constant-code (classIn n l t x) ∙ known-constant (classIn n l t x) ∙ ap isKnown (sym (constant-is x h))
+  swept-below s h = List·getD-append (codes n l t) (drop (i + g) old) 0 s (rw codes-few h) ∙ codes-below n l rows task a t s h
 
   -- then, with 8 for the gates to be searched, a byte for each signal
   abbrev marked : List ℕ
@@ -215,11 +171,11 @@ module _ (n l rows : List ℕ) (task : Task) (a : Accepts n l rows task) (t : �
           ∙ ap (λ m. knownOr8 (code (classIn n l t (m + h)))) (f .inputs-are))
           (λ i. gate (a .decoded .kinds-are h below i) (a .decoded .pins-are h below i))
           ∙ read-known (classIn n l t s) (gate (gateKind n h) (gatePins n h))
-          ∙ ap₂ orKnown (sym (constant-is s (omega (arith, signals-are)))) (sym d)
+          ∙ ap₂ orKnown (sym (constant-is n l rows task a t s (omega (arith, all-signals)))) (sym d)
 
       above : (s : ℕ) → inputsOf n + gatesOf n ≤ s → sourcesOf n l t s ≡ given c0 → sourceFrom rows known s ≡ src s
       above s h d =
-          ap (λ b. read b (row s)) (known-above s (omega (arith, signals-are))) ∙ read-given c0 (row s)
+          ap (λ b. read b (row s)) (known-above s (omega (arith, all-signals))) ∙ read-given c0 (row s)
           ∙ sym (known-given (sourcesOf n l t) (inputsOf n + gatesOf n) s c0 d)
 
   -- so the searches are those of the forward method
@@ -246,7 +202,7 @@ module _ (n l rows : List ℕ) (task : Task) (a : Accepts n l rows task) (t : �
       go (yes below) d = absurd (omega (arith, known-input s below, code-small (classIn n l t s)))
       go (no above) (yes below) =
           let e : inputsOf n + (s - inputsOf n) ≡ s = omega (arith, f .inputs-are) in
-          rw e at (a .decoded .gate (s - inputsOf n) (omega (arith, f .inputs-are, signals-are)))
+          rw e at (a .decoded .gate (s - inputsOf n) (omega (arith, f .inputs-are, all-signals)))
       go (no above) (no beyond) = absurd (omega (arith, known-above s (omega arith)))
 
   known-afresh : Afresh known
@@ -280,7 +236,7 @@ module _ (n l rows : List ℕ) (task : Task) (a : Accepts n l rows task) (t : �
   -- the same, of what the calls hand back
   module _ (now : List ℕ) (e : now ≡ filled) where
     pub touched-by : (r : ℕ) → r ≡ touchedBy rows (codesOf rows now i g (i + g)) i g → r ≡ touchedIn n l t
-    touched-by r d = d ∙ ap (λ b. touchedBy rows (codesOf rows b i g (i + g)) i g) e ∙ touched-is
+    touched-by r d = d ∙ ap (λ b. touchedBy rows (codesOf rows b i g (i + g)) i g) e ∙ touched-is n l rows task a t old
 
     pub known-by : (after : List ℕ) → after ≡ knownCodes (sweptCodes rows now i g) i g → take (i + g) after ≡ known
     known-by after d = ap (take (i + g)) (d ∙ ap (λ b. knownCodes (sweptCodes rows b i g) i g) e ∙ ap (λ b. knownCodes b i g) swept-is)

@@ -1,4 +1,3 @@
-pub mod Constants
 pub mod Theorems
 pub mod Answers
 pub mod Cases

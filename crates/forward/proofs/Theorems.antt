@@ -1,36 +1,34 @@
--- What the forward method says of an accepted change: its constants are exactly the signals of class `0` or `1`, and it calls an output clean exactly
--- where its class is clean. Assumes nothing.
-use Prim.Native.Nat.{ℕ, suc, _+_, _<_}
+-- What the forward method says of an accepted change: it calls an output clean exactly where its class is clean. Assumes nothing.
+use Prim.Native.Nat.{ℕ, _+_, _<_}
 use native.Mathlib.Omega.{arith}
 use mathlib.Core.Path.{_≡_, refl, sym, _∙_, ap}
 use mathlib.Core.Logic.{_↔_}
 use mathlib.Core.Bool.{Bool, true, false, cond}
 use mathlib.Core.List.{List}
-use mathlib.Core.Option.{none, some}
+use mathlib.Core.Option.{some}
 use lib.ListN.{getD}
 use Rattle.kung.specs.Class.{Class, c0, clean}
 use Rattle.kung.specs.Sets.{cleanSet}
 use Rattle.kung.proofs.Finite.{T→≡, ≡→T, implies, implied, everyClass, class-at}
 use Rattle.kung.proofs.SetLaws.{has-setOf}
 use Rattle.kung.proofs.Listed.{getD-tab}
-use Rattle.circuit.specs.Circuit.{Falling, value}
-use Rattle.circuit.proofs.Laws.{sources-falling, sources-above}
+use Rattle.circuit.proofs.Laws.{sources-above}
 use Rattle.netlist.specs.Netlist.{inputsOf, gatesOf, outputsOf, outputAt, cardOf}
-use Rattle.netlist.proofs.Accepted.{formed}
 use Rattle.changes.specs.declared.Task.{Task}
 use Rattle.changes.specs.declared.Listed.the-variants.{Accepted}
 use Rattle.changes.specs.Changes.{sourcesOf}
 use Rattle.changes.specs.Refusals.{listChecked}
-use Rattle.changes.proofs.Accepted.{listed}
 use Rattle.search.specs.Search as search
 use Rattle.search.specs.Search.{search}
 use Rattle.search.proofs.Known.{search-known}
 use Rattle.outputs.specs.Outputs.{verdictByte}
 use Rattle.simulate.specs.Full.{classIn}
 use Rattle.simulate.proofs.Theorems.{class-value}
-use Rattle.forward.specs.Constants.{isConstant, follows, spread, knownSources}
-use Rattle.forward.specs.Forward.{constantsIn, outputSearch, forwardBytes}
-use Rattle.forward.proofs.Constants.{inPass, spread-stays, one-pass, constants-exactly, known-sources}
+use Rattle.constants.specs.Constants.{isConstant, knownSources}
+use Rattle.constants.specs.Change.{constantsIn}
+use Rattle.constants.proofs.Constants.{known-sources}
+use Rattle.constants.proofs.Theorems.{falling, constants-are}
+use Rattle.forward.specs.Forward.{outputSearch, forwardBytes}
 
 -- a class is judged by the wanted set {0, 1, R, F}
 byte-clean : (k : Class) → verdictByte (search.judged cleanSet k) ≡ 0 ↔ (clean k ≡ true)
@@ -46,27 +44,11 @@ unfolding everyClass
 constant-clean k h = T→≡ _ (implied (isConstant k) (clean k) (class-at (λ k. implies (isConstant k) (clean k)) tt k) (≡→T _ h))
 
 module _ {task : Task} (n l : List ℕ) (accepted : listChecked n l ≡ Accepted task) (t : ℕ) where
-  pub falling : Falling (sourcesOf n l t)
-  unfolding sourcesOf
-  falling = sources-falling (cardOf n) c0 _ (formed n (listed n l accepted .netlist-accepted) .well-formed)
-
-  -- "until no gate's class follows from constant pins any more"
-  pub constants-stay : (s : ℕ) → s < inputsOf n + gatesOf n → spread (sourcesOf n l t) (suc (inputsOf n + gatesOf n)) s ≡ constantsIn n l t s
-  constants-stay = spread-stays (sourcesOf n l t) falling (inputsOf n + gatesOf n)
-
-  -- one pass in gate order finds them
-  pub constants-pass : (s : ℕ) → s < inputsOf n + gatesOf n → value follows none (λ s. inPass (sourcesOf n l t s)) s ≡ constantsIn n l t s
-  constants-pass = one-pass (sourcesOf n l t) falling (inputsOf n + gatesOf n)
-
-  -- the constants are exactly the signals of class `0` or `1`
-  pub constants-are : (s : ℕ) → s < inputsOf n + gatesOf n → (k : Class) → constantsIn n l t s ≡ some k ↔ ((classIn n l t s ≡ k) × (isConstant k ≡ true))
-  constants-are s h k = rw class-value (constants-exactly (sourcesOf n l t) falling (inputsOf n + gatesOf n) s h k)
-
   pub output-verdict : (out : ℕ) → (outputSearch n l t out) .verdict ≡ search.judged cleanSet (classIn n l t (outputAt n out))
   unfolding outputSearch sourcesOf cardOf
   output-verdict out =
-      search-known (sourcesOf n l t) _ falling
-      (known-sources (sourcesOf n l t) falling (inputsOf n + gatesOf n) (λ s h. (c0, sources-above (cardOf n) c0 _ s h))) cleanSet (outputAt n out)
+      search-known (sourcesOf n l t) _ (falling n l accepted t)
+      (known-sources (sourcesOf n l t) (falling n l accepted t) (inputsOf n + gatesOf n) (λ s h. (c0, sources-above (cardOf n) c0 _ s h))) cleanSet (outputAt n out)
       ∙ ap (search.judged cleanSet) (sym (class-value n l t (outputAt n out)))
 
   -- the forward method calls an output clean exactly where its class is 0, 1, R or F
@@ -80,4 +62,4 @@ module _ {task : Task} (n l : List ℕ) (accepted : listChecked n l ≡ Accepted
   pub constant-output : (out : ℕ) (k : Class) → outputAt n out < inputsOf n + gatesOf n → constantsIn n l t (outputAt n out) ≡ some k
       → outputSearch n l t out ≡ record { verdict = search.clean k; gates = 0; pins = 0 }
   unfolding outputSearch search knownSources search.judged
-  constant-output out k h known = rw (known, has-setOf, constant-clean k (constants-are (outputAt n out) h k .0 known .1))
+  constant-output out k h known = rw (known, has-setOf, constant-clean k (constants-are n l accepted t (outputAt n out) h k .0 known .1))

@@ -1,14 +1,12 @@
 -- Document 01, "The forward method" and "Turned back, by operation": the forward method on a change.
 use Prim.Native.Nat.{ℕ, _+_}
 use mathlib.Core.List.{List, _++_}
-use mathlib.Core.Option.{Option}
 use lib.Dec.{leb, ltb}
 use lib.ListN.{length, drop}
-use Rattle.kung.specs.Class.{Class}
 use Rattle.kung.specs.Sets.{cleanSet}
 use Rattle.kung.specs.Tables.{tab}
 use Rattle.words.specs.Refusal.{refuse}
-use Rattle.netlist.specs.Netlist.{inputsOf, gatesOf, outputsOf, outputAt, cardOf}
+use Rattle.netlist.specs.Netlist.{inputsOf, gatesOf, outputsOf, outputAt}
 use Rattle.changes.specs.declared.Listed.{Listed}
 use Rattle.changes.specs.declared.Listed.the-variants as list
 use Rattle.changes.specs.Changes.{sourcesOf}
@@ -16,16 +14,10 @@ use Rattle.changes.specs.Refusals.{listChecked}
 use Rattle.search.specs.Search.{Answer, search}
 use Rattle.search.specs.Pins.{sumBelow}
 use Rattle.outputs.specs.Outputs.{verdictByte}
-use Rattle.forward.specs.Constants.{constants, knownSources, touched}
+use Rattle.constants.specs.Constants.{knownSources}
+use Rattle.constants.specs.Change.{touchedIn}
 use Rattle.forward.specs.declared.Forwarded.{Forwarded}
 use Rattle.forward.specs.declared.Forwarded.the-variants.{Done, Refused}
-
--- the constants in change t
-abbrev pub constantsIn : (netlist list : List ℕ) → (t signal : ℕ) → Option Class
-constantsIn n l t = constants (sourcesOf n l t) (inputsOf n + gatesOf n)
-
-unfoldable pub touchedIn : (netlist list : List ℕ) → (t : ℕ) → ℕ
-touchedIn n l t = touched (cardOf n) (constantsIn n l t)
 
 -- "Each output is then searched as in CORE, afresh, constant gates being known; one on a constant signal is clean with 0 gates visited."
 unfoldable pub outputSearch : (netlist list : List ℕ) → (t output : ℕ) → Answer

@@ -1,3 +1,2 @@
-pub mod Constants
 pub mod Forward
 pub mod Known

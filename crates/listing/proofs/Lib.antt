@@ -1,6 +1,4 @@
-pub mod Laws
 mod Pages
 mod Lines
 mod Prepared
 pub mod Theorems
-mod Cases

@@ -16,7 +16,7 @@ use Rattle.lines.specs.Texts.{texts, firstLine}
 use Rattle.lines.proofs.Laws.{texts-cons}
 use Rattle.listing.specs.declared.Progress.{Progress}
 use Rattle.listing.specs.declared.Progress.the-variants.{Start, Change}
-use Rattle.listing.specs.Listing.{changeLines, printedChanges}
+use Rattle.text.specs.Listing.{changeLines, printedChanges}
 use Rattle.listing.specs.Pieces.{empty, _before_, page, pieceOf, Written}
 
 -- what is appended at the buffer's start is a piece

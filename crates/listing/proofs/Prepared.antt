@@ -31,7 +31,7 @@ use Rattle.report.proofs.Lengths.{verdict-length}
 use Rattle.lines.specs.Texts.{texts}
 use Rattle.lines.specs.Lent.{textIn}
 use Rattle.lines.proofs.Laws.{texts-high, texts-same}
-use Rattle.listing.specs.Listing.{isClean, outputLine, changeLines}
+use Rattle.text.specs.Listing.{isClean, outputLine, changeLines}
 use Rattle.listing.specs.Lent.{Lined}
 
 clean-byte : (v : Verdict) → eqb (verdictByte v) 0 ≡ isClean v

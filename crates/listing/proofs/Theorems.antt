@@ -9,20 +9,14 @@ use mathlib.Core.List.{List, _++_}
 use borrow.Author.Tests.{le-ltb}
 use lib.Dec.{ltb}
 use lib.ListN.{length, drop, length-append}
-use Rattle.netlist.specs.Netlist.{outputsOf}
-use Rattle.netlist.proofs.Accepted.{formed}
-use Rattle.changes.specs.declared.Listed.{Listed}
-use Rattle.changes.specs.declared.Listed.the-variants.{Accepted, Refused}
 use Rattle.changes.specs.Refusals.{listChecked}
-use Rattle.changes.proofs.Accepted.{listed}
-use Rattle.report.specs.Text.{countsLine, verdictLine, refusalLine}
-use Rattle.report.proofs.Lengths.{line-some}
 use Rattle.lines.specs.Texts.{texts, firstLine}
 use Rattle.lines.proofs.Laws.{texts-join, texts-some}
+use Rattle.text.specs.Listing.{changeLines, printedChanges, printed}
+use Rattle.text.proofs.Lines.{lines-some, first-some}
 use Rattle.listing.specs.declared.Progress.{Progress}
 use Rattle.listing.specs.declared.Progress.the-variants.{Start, Change}
 use Rattle.listing.specs.declared.Piece.{Piece}
-use Rattle.listing.specs.Listing.{outputLine, changeLines, printedChanges, printed}
 use Rattle.listing.specs.Pieces.{Portion, empty, pieceOf, Written, Pieces, last, more, AllPrinted}
 use Rattle.listing.proofs.Pages.{page-none, reached}
 
@@ -35,31 +29,6 @@ module _ (n l : List ℕ) where
   -- the changes to print
   abbrev T : ℕ
   T = printedChanges (listChecked n l)
-
-  output-some : (t o : ℕ) → 1 ≤ length (outputLine n l t o)
-  unfolding outputLine verdictLine
-  output-some t o = line-some _ _
-
-  -- each has a line, since an accepted card has an output
-  lines-some : (t : ℕ) → t < T → 1 ≤ length (changeLines n l t)
-  unfolding changeLines texts printedChanges
-  lines-some t early = find (listChecked n l) refl (omega arith)
-    where
-      go : (outputs : ℕ) → 1 ≤ outputs → 1 ≤ length (texts (outputLine n l t) 0 outputs)
-      go zero h = absurd (omega arith)
-      go (suc k) h = simp length-append (omega (arith, output-some t (0 + k)))
-
-      find : (listed : Listed) → listChecked n l ≡ listed → t < printedChanges listed → 1 ≤ length (texts (outputLine n l t) 0 (outputsOf n))
-      find (Refused number place) e h = absurd (omega arith)
-      find (Accepted task) e h = let f = formed n (listed n l e .netlist-accepted) in go (outputsOf n) (omega (arith, f .outputs-low, f .outputs-are))
-
-  first-some : 1 ≤ length (firstLine (listChecked n l))
-  unfolding firstLine refusalLine countsLine
-  first-some = go (listChecked n l)
-    where
-      go : (listed : Listed) → 1 ≤ length (firstLine listed)
-      go (Refused number place) = line-some _ _
-      go (Accepted task) = line-some _ _
 
   -- what is left to print falls with each piece that is not empty
   abbrev pub left : Progress → ℕ
@@ -114,7 +83,7 @@ module _ (n l : List ℕ) where
         let up : k + (T - (t + k)) ≡ T - t = omega (arith, r .within) in
         subst (Pieces n l room (Change t))
         (ap (λ text. text ++ lines (t + k)) (r .text-is) ∙ texts-join f t k (T - (t + k)) ∙ ap (texts f t) up)
-        (more (λ none. absurd (omega (arith, ap length none, ap length (r .text-is), texts-some f t k (lines-some t early) some)))
+        (more (λ none. absurd (omega (arith, ap length none, ap length (r .text-is), texts-some f t k (lines-some n l t early) some)))
         (subst (λ p. Pieces n l room p (lines (t + k))) (sym (r .next-is)) (later k some)))
 
     changes-printed : (fuel t : ℕ) → T - t ≤ fuel → Pieces n l room (Change t) (lines t)
@@ -130,7 +99,7 @@ module _ (n l : List ℕ) where
     whole =
         let first : pieceOf n l room Start ≡ record { text = firstLine (listChecked n l); next = Change 0 } = rw (le-ltb room 64 (omega arith)) in
         subst (Pieces n l room Start) (ap (λ piece. piece .text ++ texts (changeLines n l) 0 T) first)
-        (more (λ none. absurd (omega (arith, ap length none, ap (λ piece. length (piece .text)) first, first-some)))
+        (more (λ none. absurd (omega (arith, ap length none, ap (λ piece. length (piece .text)) first, first-some n l)))
         (subst (λ p. Pieces n l room p (texts (changeLines n l) 0 T)) (sym (ap (λ piece. piece .next) first)) (rw sub-zero at (changes-printed T 0 (omega arith)))))
 
   pub all-printed : (room : ℕ) → AllPrinted n l room

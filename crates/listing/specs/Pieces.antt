@@ -11,7 +11,7 @@ use Rattle.lines.specs.Texts.{firstLine}
 use Rattle.listing.specs.declared.Progress.{Progress}
 use Rattle.listing.specs.declared.Progress.the-variants.{Start, Change}
 use Rattle.listing.specs.declared.Piece.{Piece}
-use Rattle.listing.specs.Listing.{changeLines, printedChanges, printed}
+use Rattle.text.specs.Listing.{changeLines, printedChanges, printed}
 
 -- a piece's text, and where the next piece begins
 pub record Portion : Type 0 where

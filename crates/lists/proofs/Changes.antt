@@ -37,9 +37,11 @@ use Rattle.outputs.specs.Lent.{OutputsReady}
 use Rattle.core.proofs.Entry.{known-all, ready, output-is, outputs-ready, search-is}
 use Rattle.outputs.proofs.Outputs.{search-few}
 use Rattle.core.proofs.Theorems.{pins-within, gates-within}
-use Rattle.forward.specs.Constants.{isKnown, touched}
-use Rattle.forward.proofs.Changes.{sum-ext, tab-ext}
-use Rattle.forward.specs.Forward.{constantsIn, touchedIn, outputSearch, visitedIn, forwardBytes}
+use Rattle.constants.specs.Constants.{isKnown, touched}
+use Rattle.constants.specs.Change.{constantsIn, touchedIn}
+use Rattle.constants.proofs.Touched.{sum-ext}
+use Rattle.forward.proofs.Changes.{tab-ext}
+use Rattle.forward.specs.Forward.{outputSearch, visitedIn, forwardBytes}
 use Rattle.lists.specs.Methods.{coreBytes, coreSum, fullOf, forwardOf, coreOf}
 use Rattle.lists.specs.Lent.{KnownRoom}
 use Rattle.lists.proofs.Rows.{Regular}

@@ -8,7 +8,8 @@ use Rattle.search.specs.Search.{Answer}
 use Rattle.search.specs.Pins.{sumBelow}
 use Rattle.core.specs.Core.{searchOf}
 use Rattle.outputs.specs.Outputs.{verdictByte}
-use Rattle.forward.specs.Forward.{touchedIn, visitedIn, forwardBytes}
+use Rattle.constants.specs.Change.{touchedIn}
+use Rattle.forward.specs.Forward.{visitedIn, forwardBytes}
 use Rattle.lists.specs.declared.Judged.{Judged}
 use Rattle.lists.specs.declared.Judged.the-variants.{Done}
 

@@ -6,8 +6,8 @@ use Rattle.changes.specs.declared.Listed.the-variants.{Accepted}
 use Rattle.changes.specs.Refusals.{listChecked}
 use Rattle.changes.proofs.Rooms.{accepts}
 use Rattle.core.proofs.Rooms.{large-room}
-use Rattle.listing.specs.Listing.{printedChanges}
-use Rattle.listing.proofs.Laws.{changes-are}
+use Rattle.text.specs.Listing.{printedChanges}
+use Rattle.text.proofs.Laws.{changes-are}
 use Rattle.listing.proofs.Pages.{written-none}
 use borrow.Author.Needs.{needs}
 use Rattle.listing.proofs.put_changes.Statement.{statement}

@@ -20,8 +20,8 @@ use Rattle.report.specs.Appended.{Appended}
 use Rattle.report.proofs.Appending.{kept}
 use Rattle.lines.specs.Texts.{texts}
 use Rattle.lines.specs.Lent.{textIn}
-use Rattle.listing.specs.Listing.{changeLines, printedChanges}
-use Rattle.listing.proofs.Laws.{changes-are}
+use Rattle.text.specs.Listing.{changeLines, printedChanges}
+use Rattle.text.proofs.Laws.{changes-are}
 use Rattle.listing.proofs.Pages.{page-full, page-none, Grown, grown-none, grown-more, grown-all}
 use Rattle.listing.proofs.Prepared.{Unknown, unknown-first, unknown-again, lines-same, lines-high}
 use borrow.Author.Needs.{needs}

@@ -8,7 +8,8 @@ use Rattle.changes.specs.Lent.{Accepts, signalsOf}
 use Rattle.changes.specs.declared.Task.{Task}
 use Rattle.changes.proofs.Accepted.{listed}
 use Rattle.simulate.proofs.Laws.{filled-passable}
-use Rattle.forward.specs.Forward.{touchedIn, visitedIn}
+use Rattle.constants.specs.Change.{touchedIn}
+use Rattle.forward.specs.Forward.{visitedIn}
 use Rattle.forward.proofs.Changes as changes
 use Rattle.lists.specs.declared.Judged.the-variants.{Done}
 use Rattle.lists.specs.Methods.{forwardOf}

@@ -19,7 +19,7 @@ use Rattle.search.specs.Search.{search, visit, takePins, takePin, driverOf, che
 use Rattle.core.specs.Core.{searchOf}
 use Rattle.report.specs.Text.{ascii, digits, decimal, line, countsLine, verdictWord, verdictLine}
 use Rattle.lines.specs.Texts.{texts, firstLine}
-use Rattle.listing.specs.Listing.{outputLine, changeLines, printedChanges, printed}
+use Rattle.text.specs.Listing.{outputLine, changeLines, printedChanges, printed}
 
 mux : printed muxNetlist muxList ≡ ascii "3 inputs 4 gates 1 outputs 1 changes\n0 0 S1 hazard 4 7\n"
 unfolding printed printedChanges firstLine changeLines outputLine texts verdictLine verdictWord countsLine line decimal digits classIn classOf searchOf search visit takePins takePin driverOf checks sameResult only onlyOf possibleOf total put cellAt cellOf judged ofCode setOf has meets image possible wantedFor join joinAll andAll orAll each some kindOf gateClass values value sources sourcesOf inputClassAt bitAt list.listChecked list.against list.afterNetlist list.sparesFrom list.spareAt list.spareBits netlist.checked netlist.checkedWithin netlist.bodyWithin netlist.body netlist.accepted netlist.outputs netlist.counts netlist.opening netlist.recordsFrom netlist.recordAt records.mostPins records.leastPins records.noKind netlist.wordsBelow refuse netlist.pinsBelow netlist.placeOf netlist.cardOf netlist.shapeOf wordsAt wordAt longAt marked outside tieOf tieFrom

@@ -17,7 +17,7 @@ use Rattle.kung.proofs.SetLaws.{same-elim}
 use Rattle.circuit.specs.Circuit.{Source, given, gate, pinsOf, outOf, value, Each, Falling}
 use Rattle.circuit.proofs.Laws.{map-ext, each-map, value-law, related}
 use Rattle.search.proofs.Known.{Given}
-use Rattle.forward.specs.Constants.{isConstant, constantOf, isKnownAs, withPin, allKnown, gateOfKnown, follows, constantFrom, spread, orKnown, knownSources}
+use Rattle.constants.specs.Constants.{isConstant, constantOf, isKnownAs, withPin, allKnown, gateOfKnown, follows, constantFrom, spread, orKnown, knownSources}
 
 -- the class that decides a gate alone, joined or not
 abbrev decides : Op → Class → Bool

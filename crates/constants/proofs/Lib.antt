@@ -1,0 +1,3 @@
+pub mod Constants
+pub mod Theorems
+pub mod Touched

@@ -1,0 +1,1 @@
+// What the program prints: definitions in specs/ and laws in proofs/, no code that runs.
