@@ -9,7 +9,7 @@ use Rattle.changes.specs.Lent.{Accepts, signalsOf}
 use Rattle.sweep.specs.Sweep.{codesOf, hotsOf}
 use Rattle.simulate.proofs.Laws.{filled-codes, filled-after}
 use Rattle.forward.specs.Known.{knownCodes, sweptCodes}
-use Rattle.lists.specs.Left.{after, heated, constants, filled}
+use Rattle.lists.specs.Left.{after, heated, knownConstants, filled}
 
 module _ (step : ℕ → List ℕ → List ℕ) (lent : List ℕ) where
   pub after-none : lent ≡ after step 0 lent
@@ -34,8 +34,8 @@ module _ (n l rows : List ℕ) (task : Task) (a : Accepts n l rows task) (t : �
   heated-by hot exit x =
       x ∙ ap (λ b. hotsOf (codesOf rows b i g s) ++ drop s hot) e ∙ ap (λ k. hotsOf k ++ drop s hot) (filled-codes n l rows task a t old)
 
-  pub constants-by : (exit : List ℕ) → exit ≡ knownCodes (sweptCodes rows now i g) i g → exit ≡ constants n l task t old
+  pub known-constants-by : (exit : List ℕ) → exit ≡ knownCodes (sweptCodes rows now i g) i g → exit ≡ knownConstants n l task t old
   unfolding sweptCodes
-  constants-by exit x =
+  known-constants-by exit x =
       x ∙ ap (λ b. knownCodes (codesOf rows b i g s ++ drop s b) i g) e
       ∙ ap₂ (λ k r. knownCodes (k ++ r) i g) (filled-codes n l rows task a t old) (filled-after n l rows task a t old)

@@ -19,8 +19,8 @@ abbrev pub heated : (netlist list : List ℕ) → Task → (t : ℕ) → (hot : 
 heated n l task t hot = hotsOf (codes n l t) ++ drop (signalsOf (task .shape)) hot
 
 -- the inputs' codes and those of the constant gates, 8 for each other gate
-abbrev pub constants : (netlist list : List ℕ) → Task → (t : ℕ) → (known : List ℕ) → List ℕ
-constants n l task t known =
+abbrev pub knownConstants : (netlist list : List ℕ) → Task → (t : ℕ) → (known : List ℕ) → List ℕ
+knownConstants n l task t known =
     knownCodes (codes n l t ++ drop (signalsOf (task .shape)) known) (task .shape .inputs) (task .shape .gates)
 
 -- the inputs' codes alone

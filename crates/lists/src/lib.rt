@@ -5,7 +5,7 @@ ghost use lib.ListN.{length};
 ghost use Rattle.changes.specs.Lent.{signalsOf};
 ghost use Rattle.lists.specs.Methods.{fullOf, forwardOf, coreOf};
 ghost use Rattle.lists.specs.Lent.{AllOf, KnownRoom, Judges};
-ghost use Rattle.lists.specs.Left.{after, heated, constants, filled};
+ghost use Rattle.lists.specs.Left.{after, heated, knownConstants, filled};
 use changes::Task;
 
 // The answer of a method: the number of changes, the bytes of each and two sums over all changes; or a refusal.
@@ -63,7 +63,7 @@ pub fn forward_rows(
     requires { ⌜ AllOf (forwardOf (now netlist) (now list)) (now netlist) (now list) (now rows) task (length (now buffer)) ⌝ }
     requires { ⌜ (signalsOf (task .shape) ≤ length (now known)) × (length (now known) ≤ length (now hot)) ⌝ }
     ensures { λ r. ⌜ Judges (forwardOf (now (netlist .entry)) (now (list .entry))) (task .changes) (now (buffer .entry)) (now (buffer .exit)) r ⌝ }
-    ensures known { λ r. ⌜ now (known .exit) ≡ after (constants (now (netlist .entry)) (now (list .entry)) task) (task .changes) (now (known .entry)) ⌝ }
+    ensures known { λ r. ⌜ now (known .exit) ≡ after (knownConstants (now (netlist .entry)) (now (list .entry)) task) (task .changes) (now (known .entry)) ⌝ }
     ensures hot { λ r. ⌜ now (hot .exit) ≡ after (heated (now (netlist .entry)) (now (list .entry)) task) (task .changes) (now (hot .entry)) ⌝ }
 {
     let table = tables::gate_table();

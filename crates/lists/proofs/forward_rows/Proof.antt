@@ -14,10 +14,10 @@ use Rattle.forward.proofs.Changes as changes
 use Rattle.lists.specs.declared.Judged.the-variants.{Done}
 use Rattle.lists.specs.Methods.{forwardOf}
 use Rattle.lists.specs.Lent.{rowed}
-use Rattle.lists.specs.Left.{after, heated, constants}
+use Rattle.lists.specs.Left.{after, heated, knownConstants}
 use Rattle.lists.proofs.Rows.{Regular, lent-room, part-back, rowed-none, rowed-kept, rowed-room, rowed-next}
 use Rattle.lists.proofs.Changes.{Counted, counted-none, counted-next, card, forward-regular, touched-high, visited-high}
-use Rattle.lists.proofs.Left.{after-none, after-next, heated-by, constants-by}
+use Rattle.lists.proofs.Left.{after-none, after-next, heated-by, known-constants-by}
 use borrow.Author.Needs.{needs}
 use Rattle.lists.proofs.forward_rows.Statement.{statement}
 use Rattle.lists.proofs.forward_rows.Tie as tie
@@ -26,7 +26,7 @@ abbrev Inv-loop : tie.InvT-loop
 Inv-loop netlist list task rows known₀ hot₀ buffer₀ table search shape signals outputs touched₀ visited₀ change₀ change-end known hot buffer touched visited change =
     (change ≤ change-end) × (buffer ≡ rowed (forwardOf netlist list) change buffer₀) × Counted (touchedIn netlist list) change touched
     × Counted (visitedIn netlist list) change visited × (length known ≡ length known₀) × (length hot ≡ length hot₀)
-    × (known ≡ after (constants netlist list task) change known₀) × (hot ≡ after (heated netlist list task) change hot₀)
+    × (known ≡ after (knownConstants netlist list task) change known₀) × (hot ≡ after (heated netlist list task) change hot₀)
 
 abbrev μ-loop : tie.MeasureT-loop
 μ-loop netlist list task rows known₀ hot₀ buffer₀ table search shape signals outputs touched₀ visited₀ change₀ change-end known hot buffer touched visited change =
@@ -236,7 +236,7 @@ loop-again c =
       ap length (again o) ∙ p .spread .kept .1 .1 .1 .1 .0 ∙ filling p .fill-inputs .kept .1 .1 .1 .0 ∙ l .loop .inv .4,
       p .spread .kept .1 .1 .1 .1 .1 .0 ∙ l .loop .inv .5,
       after-next _ _ (l .loop .change) _ _ (l .loop .inv .6)
-          (again o ∙ constants-by _ _ (rows s) _ (given s) _ _ _ (filling p .fill-inputs .ensures) _ (p .spread .ensures .1 .0)),
+          (again o ∙ known-constants-by _ _ (rows s) _ (given s) _ _ _ (filling p .fill-inputs .ensures) _ (p .spread .ensures .1 .0)),
       after-next _ _ (l .loop .change) _ _ (l .loop .inv .7)
           (heated-by _ _ (rows s) _ (given s) _ _ _ (filling p .fill-inputs .ensures) _ _ (p .spread .ensures .1 .1)),
     )
