@@ -12,6 +12,7 @@ use lists::core_rows;
 use lists::forward_rows;
 use lists::full_rows;
 use netlist::Shape;
+use words::word_at;
 
 // What to find out of each change.
 enum Analysis {
@@ -60,26 +61,11 @@ fn judge_in(
     }
 }
 
-// The same, in room by the card's size.
-fn judge(analysis: Analysis, netlist: &[u8], list: &[u8], buffer: &mut [u8]) -> Judged
+// The same in room for a card of any size.
+fn judge_large(analysis: Analysis, netlist: &[u8], list: &[u8], buffer: &mut [u8]) -> Judged
     ensures { λ r. ⌜ Answers (methodOf analysis (now (netlist .entry)) (now (list .entry))) (now (netlist .entry)) (now (list .entry)) (now (buffer .entry)) (now (buffer .exit)) r ⌝ }
 {
-    let signals = netlist::signals_in(netlist);
-    if signals <= 64 {
-        let mut rows = [0u16; 640];
-        let mut known = [8u8; 64];
-        let mut hot = [0u8; 64];
-        return judge_in(
-            analysis,
-            netlist,
-            list,
-            buffer,
-            &mut rows,
-            &mut known,
-            &mut hot,
-        );
-    }
-    if signals <= 512 {
+    if netlist::signals_in(netlist) <= 512 {
         let mut rows = [0u16; 4672];
         let mut known = [8u8; 512];
         let mut hot = [0u8; 512];
@@ -96,6 +82,33 @@ fn judge(analysis: Analysis, netlist: &[u8], list: &[u8], buffer: &mut [u8]) -> 
     let mut rows = [0u16; 20800];
     let mut known = [8u8; 2304];
     let mut hot = [0u8; 2304];
+    judge_in(
+        analysis,
+        netlist,
+        list,
+        buffer,
+        &mut rows,
+        &mut known,
+        &mut hot,
+    )
+}
+
+// The same, in small room where that is enough.
+fn judge(analysis: Analysis, netlist: &[u8], list: &[u8], buffer: &mut [u8]) -> Judged
+    ensures { λ r. ⌜ Answers (methodOf analysis (now (netlist .entry)) (now (list .entry))) (now (netlist .entry)) (now (list .entry)) (now (buffer .entry)) (now (buffer .exit)) r ⌝ }
+{
+    let inputs = word_at(netlist, 5);
+    let gates = word_at(netlist, 7);
+    // two calls, so that the larger room stays out of this frame: a small card's call would pay for it
+    if 32 < inputs {
+        return judge_large(analysis, netlist, list, buffer);
+    }
+    if 32 < gates {
+        return judge_large(analysis, netlist, list, buffer);
+    }
+    let mut rows = [0u16; 640];
+    let mut known = [8u8; 64];
+    let mut hot = [0u8; 64];
     judge_in(
         analysis,
         netlist,

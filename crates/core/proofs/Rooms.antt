@@ -21,8 +21,8 @@ room-for signals rows long few n told =
     }
 
 -- those of a small card, of a larger one and of the largest
-pub small-room : (n : List ℕ) → inputsOf n + gatesOf n ≤ 64 → SearchRoom n (replicate 640 0) (replicate 64 8)
-small-room n h = room-for 64 640 (omega arith) (omega arith) n (λ f. h)
+pub small-room : (n : List ℕ) → inputsOf n ≤ 32 → gatesOf n ≤ 32 → SearchRoom n (replicate 640 0) (replicate 64 8)
+small-room n i g = room-for 64 640 (omega arith) (omega arith) n (λ f. omega (arith, i, g))
 
 pub middle-room : (n : List ℕ) → inputsOf n + gatesOf n ≤ 512 → SearchRoom n (replicate 4672 0) (replicate 512 8)
 middle-room n h = room-for 512 4672 (omega arith) (omega arith) n (λ f. h)

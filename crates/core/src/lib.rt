@@ -8,6 +8,7 @@ use outputs::CLEAN_SET;
 use visit::Found;
 use visit::Verdict;
 use visit::find;
+use words::word_at;
 
 // The answer of CORE: clean with the class, or hazardous, with gates and pins; or a refusal of document 01.
 pub enum Cored {
@@ -76,22 +77,34 @@ fn core_in(
     }
 }
 
-// Whether an output can glitch in a change. Room is taken by the card's size: clearing it takes longer than a small card's search.
-pub fn core(netlist: &[u8], list: &[u8], change: usize, output: usize) -> Cored
+// The same in room for a card of any size.
+fn core_large(netlist: &[u8], list: &[u8], change: usize, output: usize) -> Cored
     ensures { λ r. ⌜ r ≡ coreAnswer (now (netlist .entry)) (now (list .entry)) change output ⌝ }
 {
-    let signals = netlist::signals_in(netlist);
-    if signals <= 64 {
-        let mut rows = [0u16; 640];
-        let mut known = [8u8; 64];
-        return core_in(netlist, list, change, output, &mut rows, &mut known);
-    }
-    if signals <= 512 {
+    if netlist::signals_in(netlist) <= 512 {
         let mut rows = [0u16; 4672];
         let mut known = [8u8; 512];
         return core_in(netlist, list, change, output, &mut rows, &mut known);
     }
     let mut rows = [0u16; 20800];
     let mut known = [8u8; 2304];
+    core_in(netlist, list, change, output, &mut rows, &mut known)
+}
+
+// Whether an output can glitch in a change.
+pub fn core(netlist: &[u8], list: &[u8], change: usize, output: usize) -> Cored
+    ensures { λ r. ⌜ r ≡ coreAnswer (now (netlist .entry)) (now (list .entry)) change output ⌝ }
+{
+    let inputs = word_at(netlist, 5);
+    let gates = word_at(netlist, 7);
+    // two calls, so that the larger room stays out of this frame: a small card's call would pay for it
+    if 32 < inputs {
+        return core_large(netlist, list, change, output);
+    }
+    if 32 < gates {
+        return core_large(netlist, list, change, output);
+    }
+    let mut rows = [0u16; 640];
+    let mut known = [8u8; 64];
     core_in(netlist, list, change, output, &mut rows, &mut known)
 }

@@ -10,6 +10,7 @@ ghost use Rattle.core.specs.Lent.{SearchRoom};
 ghost use Rattle.forward.specs.Known.{knownOr8, knownCodes, sweptCodes};
 ghost use Rattle.forward.specs.Forward.{forwardAnswer, forwardBuffer};
 use changes::Listed;
+use words::word_at;
 
 // A gate's class where it is constant, else 8.
 fn known_or_8(class: u8) -> u8
@@ -98,26 +99,11 @@ fn forward_in(
     }
 }
 
-// Writes for each output whether it is clean (0) or hazardous (1) in a change.
-pub fn forward(netlist: &[u8], list: &[u8], change: usize, buffer: &mut [u8]) -> Forwarded
+// The same in room for a card of any size.
+fn forward_large(netlist: &[u8], list: &[u8], change: usize, buffer: &mut [u8]) -> Forwarded
     ensures { λ r. ⌜ (r ≡ forwardAnswer (now (netlist .entry)) (now (list .entry)) change (now (buffer .entry))) × (now (buffer .exit) ≡ forwardBuffer (now (netlist .entry)) (now (list .entry)) change (now (buffer .entry))) ⌝ }
 {
-    let signals = netlist::signals_in(netlist);
-    if signals <= 64 {
-        let mut rows = [0u16; 640];
-        let mut known = [8u8; 64];
-        let mut hot = [0u8; 64];
-        return forward_in(
-            netlist,
-            list,
-            change,
-            buffer,
-            &mut rows,
-            &mut known,
-            &mut hot,
-        );
-    }
-    if signals <= 512 {
+    if netlist::signals_in(netlist) <= 512 {
         let mut rows = [0u16; 4672];
         let mut known = [8u8; 512];
         let mut hot = [0u8; 512];
@@ -134,6 +120,33 @@ pub fn forward(netlist: &[u8], list: &[u8], change: usize, buffer: &mut [u8]) ->
     let mut rows = [0u16; 20800];
     let mut known = [8u8; 2304];
     let mut hot = [0u8; 2304];
+    forward_in(
+        netlist,
+        list,
+        change,
+        buffer,
+        &mut rows,
+        &mut known,
+        &mut hot,
+    )
+}
+
+// Writes for each output whether it is clean (0) or hazardous (1) in a change.
+pub fn forward(netlist: &[u8], list: &[u8], change: usize, buffer: &mut [u8]) -> Forwarded
+    ensures { λ r. ⌜ (r ≡ forwardAnswer (now (netlist .entry)) (now (list .entry)) change (now (buffer .entry))) × (now (buffer .exit) ≡ forwardBuffer (now (netlist .entry)) (now (list .entry)) change (now (buffer .entry))) ⌝ }
+{
+    let inputs = word_at(netlist, 5);
+    let gates = word_at(netlist, 7);
+    // two calls, so that the larger room stays out of this frame: a small card's call would pay for it
+    if 32 < inputs {
+        return forward_large(netlist, list, change, buffer);
+    }
+    if 32 < gates {
+        return forward_large(netlist, list, change, buffer);
+    }
+    let mut rows = [0u16; 640];
+    let mut known = [8u8; 64];
+    let mut hot = [0u8; 64];
     forward_in(
         netlist,
         list,

@@ -18,7 +18,7 @@ use Rattle.kung.specs.Tables.{tab}
 use Rattle.kung.proofs.Listed.{getD-tab}
 use Rattle.kung.proofs.Unions.{eqb-bit}
 use Rattle.words.specs.Words.{wordAt}
-use Rattle.making.specs.Making.{rowPin, rowAt, ownPin, ownAt, ones, putAt}
+use Rattle.making.specs.Making.{pinOr, eightAt, rowPin, rowAt, ownAt, ones, putAt}
 
 pub tab-length : (f : ℕ → ℕ) (i n : ℕ) → length (tab f i n) ≡ n
 unfolding tab
@@ -39,39 +39,27 @@ pub filled-all : (f : ℕ → ℕ) (n : ℕ) (row : List ℕ) → length row ≡
 filled-all f n row e r =
     ext-getD 0 row _ (e ∙ sym (tab-length f 0 n)) (λ k h. let l : k < n = omega arith in r k l ∙ sym (getD-tab f n k l))
 
-pub row-all : (s : List ℕ) (at count : ℕ) (row : List ℕ) → length row ≡ 8 → Filled (rowPin s at count) row 8 → row ≡ rowAt s at count
-unfolding rowAt
-row-all s at count row e r = filled-all _ 8 row e r
+-- eight numbers, the pins and another past them
+pub eight-all : (s : List ℕ) (at count past : ℕ) (row : List ℕ) → length row ≡ 8 → Filled (pinOr s at count past) row 8 → row ≡ eightAt s at count past
+unfolding eightAt
+eight-all s at count past row e r = filled-all _ 8 row e r
 
-pub row-length : (s : List ℕ) (at count : ℕ) → length (rowAt s at count) ≡ 8
-unfolding rowAt
-row-length s at count = tab-length _ 0 8
+pub eight-length : (s : List ℕ) (at count past : ℕ) → length (eightAt s at count past) ≡ 8
+unfolding eightAt
+eight-length s at count past = tab-length _ 0 8
 
-pub row-pin : (s : List ℕ) (at count k : ℕ) → k < 8 → getD (rowAt s at count) k 0 ≡ rowPin s at count k
-unfolding rowAt
-row-pin s at count k h = getD-tab _ 8 k h
-
-pub own-all : (s : List ℕ) (at count : ℕ) (own : List ℕ) → length own ≡ 8 → Filled (ownPin s at count) own 8 → own ≡ ownAt s at count
-unfolding ownAt
-own-all s at count own e r = filled-all _ 8 own e r
-
--- of the pins alone
-pub own-length : (s : List ℕ) (at count : ℕ) → length (ownAt s at count) ≡ 8
-unfolding ownAt
-own-length s at count = tab-length _ 0 8
-
-pub own-pin : (s : List ℕ) (at count k : ℕ) → k < 8 → k < count → getD (ownAt s at count) k 0 ≡ wordAt s (at + 2 * k)
-unfolding ownAt ownPin
-own-pin s at count k h l = getD-tab _ 8 k h ∙ rw (lt-ltb k count l)
+pub eight-pin : (s : List ℕ) (at count past k : ℕ) → k < 8 → getD (eightAt s at count past) k 0 ≡ pinOr s at count past k
+unfolding eightAt
+eight-pin s at count past k h = getD-tab _ 8 k h
 
 -- the gate's own pins, and those past the last
-pub pin-own : (s : List ℕ) (at count k : ℕ) → k < count → wordAt s (at + 2 * k) ≡ rowPin s at count k
-unfolding rowPin
-pin-own s at count k h = rw (lt-ltb k count h)
+pub pin-own : (s : List ℕ) (at count past k : ℕ) → k < count → wordAt s (at + 2 * k) ≡ pinOr s at count past k
+unfolding pinOr
+pin-own s at count past k h = rw (lt-ltb k count h)
 
-pub pin-past : (s : List ℕ) (at count k : ℕ) → count ≤ k → wordAt s (at + 2 * (count - 1)) ≡ rowPin s at count k
-unfolding rowPin
-pin-past s at count k h = rw (le-ltb k count h)
+pub pin-past : (s : List ℕ) (at count past k : ℕ) → count ≤ k → past ≡ pinOr s at count past k
+unfolding pinOr
+pin-past s at count past k h = rw (le-ltb k count h)
 
 pub filled-rest : (s : List ℕ) (at count : ℕ) (row : List ℕ) → Filled (rowPin s at count) row count
     → ((k : ℕ) → count ≤ k → k < 8 → getD row k 0 ≡ wordAt s (at + 2 * (count - 1))) → Filled (rowPin s at count) row 8
@@ -79,7 +67,7 @@ filled-rest s at count row own past k h = go (ltb k count) refl
   where
     go : (b : Bool) → ltb k count ≡ b → getD row k 0 ≡ rowPin s at count k
     go true e = own k (ltb-true k count e)
-    go false e = let l = ltb-false k count e in past k l h ∙ pin-past s at count k l
+    go false e = let l = ltb-false k count e in past k l h ∙ pin-past s at count _ k l
 
 -- the window says which they are
 ones-at : (i : ℕ) → i < 16 → getD ones i 0 ≡ bit (ltb i 8)
@@ -100,14 +88,10 @@ window-own count j h l = rw (ones-at (8 - count + j) (omega arith), eqb-bit) (go
     go true e = sym (lt-ltb j count (omega (arith, ltb-true (8 - count + j) 8 e)))
     go false e = sym (le-ltb j count (omega (arith, ltb-false (8 - count + j) 8 e)))
 
-module _ (s : List ℕ) (at count j : ℕ) (h : count ≤ 8) (l : j < 8) where
-  pub window-pin : cond (eqb (getD ones (8 - count + j) 0) 1) (wordAt s (at + 2 * j)) (wordAt s (at + 2 * (count - 1))) ≡ rowPin s at count j
-  unfolding rowPin
-  window-pin = rw (window-own count j h l)
-
-  pub window-zero : cond (eqb (getD ones (8 - count + j) 0) 1) (wordAt s (at + 2 * j)) 0 ≡ ownPin s at count j
-  unfolding ownPin
-  window-zero = rw (window-own count j h l)
+pub window-pin : (s : List ℕ) (at count past j : ℕ) → count ≤ 8 → j < 8
+    → cond (eqb (getD ones (8 - count + j) 0) 1) (wordAt s (at + 2 * j)) past ≡ pinOr s at count past j
+unfolding pinOr
+window-pin s at count past j h l = rw (window-own count j h l)
 
 pub picked : (own a b : ℕ) → own ≤ 1 → own * a + (1 - own) * b ≡ cond (eqb own 1) a b
 picked zero a b h = omega arith

@@ -8,20 +8,23 @@ use Rattle.kung.specs.Sets.{bit}
 use Rattle.kung.specs.Tables.{tab}
 use Rattle.words.specs.Words.{wordAt}
 
--- pin k of so many that stand from a place on: past the last it is the last
-unfoldable pub rowPin : List ℕ → (at count k : ℕ) → ℕ
-rowPin s at count k = cond (ltb k count) (wordAt s (at + 2 * k)) (wordAt s (at + 2 * (count - 1)))
+-- pin k of so many that stand from a place on: past the last it is another number
+unfoldable pub pinOr : List ℕ → (at count past k : ℕ) → ℕ
+pinOr s at count past k = cond (ltb k count) (wordAt s (at + 2 * k)) past
+
+unfoldable pub eightAt : List ℕ → (at count past : ℕ) → List ℕ
+eightAt s at count past = tab (pinOr s at count past) 0 8
 
 -- the eight pins of a row, the last repeated
-unfoldable pub rowAt : List ℕ → (at count : ℕ) → List ℕ
-rowAt s at count = tab (rowPin s at count) 0 8
+abbrev pub rowPin : List ℕ → (at count k : ℕ) → ℕ
+rowPin s at count k = pinOr s at count (wordAt s (at + 2 * (count - 1))) k
+
+abbrev pub rowAt : List ℕ → (at count : ℕ) → List ℕ
+rowAt s at count = eightAt s at count (wordAt s (at + 2 * (count - 1)))
 
 -- the pins alone, and 0 past the last
-unfoldable pub ownPin : List ℕ → (at count k : ℕ) → ℕ
-ownPin s at count k = cond (ltb k count) (wordAt s (at + 2 * k)) 0
-
-unfoldable pub ownAt : List ℕ → (at count : ℕ) → List ℕ
-ownAt s at count = tab (ownPin s at count) 0 8
+abbrev pub ownAt : List ℕ → (at count : ℕ) → List ℕ
+ownAt s at count = eightAt s at count 0
 
 -- eight 1 and eight 0: of the eight from 8 - count on, the first `count` are 1
 unfoldable pub ones : List ℕ

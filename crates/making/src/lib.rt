@@ -6,7 +6,7 @@ ghost use Prim.Native.Nat.{_+_, _*_, _≤_};
 ghost use lib.Dec.{eqb, ltb};
 ghost use lib.ListN.{length};
 ghost use Rattle.kung.specs.Rule.{each};
-ghost use Rattle.making.specs.Making.{ownAt, rowAt, ones, putAt};
+ghost use Rattle.making.specs.Making.{eightAt, ownAt, rowAt, ones, putAt};
 use words::word_in;
 
 // Eight 1 and eight 0, to be lent to `own_in` and `row_in`: the eight from 8 - count on say which of a row's pins are the gate's own.
@@ -20,17 +20,25 @@ fn pick(own: u16, a: u16, b: u16) -> u16
     own * a + (1 - own) * b
 }
 
-// A row where eight words have room: no jump depends on how many pins there are.
+// Eight numbers: the pins where eight words have room, and another number past them. No jump depends on how many pins there are.
+fn eight_in(s: &[u8], window: &[u16; 16], at: usize, count: usize, past: u16) -> [u16; 8]
+    requires { ⌜ (now window ≡ ones) × (count ≤ 8) × (at + 16 ≤ length (now s)) ⌝ }
+    ensures { λ r. ⌜ r ≡ eightAt (now (s .entry)) at count past ⌝ }
+{
+    let mut row = [past; 8];
+    for j in 0..8 {
+        row[j] = pick(window[8 - count + j], word_in(s, at + 2 * j), past);
+    }
+    row
+}
+
+// A row where eight words have room.
 pub fn row_in(s: &[u8], window: &[u16; 16], at: usize, count: usize) -> [u16; 8]
     requires { ⌜ (now window ≡ ones) × (1 ≤ count) × (count ≤ 8) × (at + 16 ≤ length (now s)) ⌝ }
     ensures { λ r. ⌜ r ≡ rowAt (now (s .entry)) at count ⌝ }
 {
     let last = word_in(s, at + 2 * count - 2);
-    let mut row = [last; 8];
-    for j in 0..8 {
-        row[j] = pick(window[8 - count + j], word_in(s, at + 2 * j), last);
-    }
-    row
+    eight_in(s, window, at, count, last)
 }
 
 // The pins alone where eight words have room, and 0 past them.
@@ -38,11 +46,7 @@ pub fn own_in(s: &[u8], window: &[u16; 16], at: usize, count: usize) -> [u16; 8]
     requires { ⌜ (now window ≡ ones) × (count ≤ 8) × (at + 16 ≤ length (now s)) ⌝ }
     ensures { λ r. ⌜ r ≡ ownAt (now (s .entry)) at count ⌝ }
 {
-    let mut own = [0u16; 8];
-    for j in 0..8 {
-        own[j] = pick(window[8 - count + j], word_in(s, at + 2 * j), 0);
-    }
-    own
+    eight_in(s, window, at, count, 0)
 }
 
 // A row where the bytes end with its pins, or soon after.

@@ -19,7 +19,7 @@ use Rattle.words.proofs.Laws.{words-length, words-at}
 use Rattle.rows.specs.Rows.{countIn, pinIn, wordIn, kindIn, rowPins, cardIn, wordFor, outputIn}
 use Rattle.rows.specs.Lent.{GateRow}
 use Rattle.making.specs.Making.{rowPin, rowAt, putAt}
-use Rattle.making.proofs.Making.{tab-length, row-length, row-pin, pin-own, pin-past, length-put, put-own, put-before}
+use Rattle.making.proofs.Making.{tab-length, eight-length, eight-pin, pin-own, pin-past, length-put, put-own, put-before}
 use Rattle.rows.proofs.Told.{Takes, word-count, word-kind}
 use Rattle.records.specs.Records.{kindAt, countAt, pinAt, leastPins, mostPins}
 use Rattle.records.specs.Reading.{wordOf}
@@ -36,15 +36,15 @@ use Rattle.netlist.proofs.Passing.{fits-accepted}
 -- a record's nine numbers, one by one
 row-of-length : (s : List ℕ) (at : ℕ) → length (rowOf s at) ≡ 9
 unfolding rowOf
-row-of-length s at = simp (length-append, row-length)
+row-of-length s at = simp (length-append, eight-length)
 
 row-of-pin : (s : List ℕ) (at k : ℕ) → k < 8 → getD (rowOf s at) k 0 ≡ rowPin s (at + 2) (countAt s at) k
 unfolding rowOf
-row-of-pin s at k h = List·getD-append (rowAt s (at + 2) (countAt s at)) _ 0 k (rw row-length h) ∙ row-pin s (at + 2) (countAt s at) k h
+row-of-pin s at k h = List·getD-append (rowAt s (at + 2) (countAt s at)) _ 0 k (rw eight-length h) ∙ eight-pin s (at + 2) (countAt s at) _ k h
 
 row-of-word : (s : List ℕ) (at : ℕ) → getD (rowOf s at) 8 0 ≡ wordOf s at
 unfolding rowOf
-row-of-word s at = getD-at (rowAt s (at + 2) (countAt s at)) (wordOf s at) [] 0 8 (row-length s (at + 2) (countAt s at))
+row-of-word s at = getD-at (rowAt s (at + 2) (countAt s at)) (wordOf s at) [] 0 8 (eight-length s (at + 2) (countAt s at) _)
 
 -- the rows of n records from gate g's on, where all fit and have room
 pub length-rows : (n g : ℕ) (s rows : List ℕ) → length (rowsFrom n g s rows) ≡ length rows
@@ -173,9 +173,9 @@ module _ {shape : Shape} (s old : List ℕ) (ok : checked s ≡ Accepted shape) 
         go : (b : Bool) → ltb k (countAt s (placeOf s g)) ≡ b → rowPin s (placeOf s g + 2) (countAt s (placeOf s g)) k < inputsOf s + g
         go true e =
             let l = ltb-true k (countAt s (placeOf s g)) e in
-            rw (← pin-own s (placeOf s g + 2) (countAt s (placeOf s g)) k l) (pin-below k l)
+            rw (← pin-own s (placeOf s g + 2) (countAt s (placeOf s g)) _ k l) (pin-below k l)
         go false e =
-            rw (← pin-past s (placeOf s g + 2) (countAt s (placeOf s g)) k (ltb-false k (countAt s (placeOf s g)) e))
+            rw (← pin-past s (placeOf s g + 2) (countAt s (placeOf s g)) _ k (ltb-false k (countAt s (placeOf s g)) e))
             (pin-below (countAt s (placeOf s g) - 1) (omega (arith, at-record .count-some)))
 
     repeats : (k : ℕ) → countAt s (placeOf s g) ≤ k → k < 8
@@ -183,8 +183,8 @@ module _ {shape : Shape} (s old : List ℕ) (ok : checked s ≡ Accepted shape) 
     repeats k l m =
         let some = at-record .count-some in
         pin-is k m
-        ∙ sym (pin-past s (placeOf s g + 2) (countAt s (placeOf s g)) k l)
-        ∙ pin-own s (placeOf s g + 2) (countAt s (placeOf s g)) (countAt s (placeOf s g) - 1) (omega arith)
+        ∙ sym (pin-past s (placeOf s g + 2) (countAt s (placeOf s g)) _ k l)
+        ∙ pin-own s (placeOf s g + 2) (countAt s (placeOf s g)) _ (countAt s (placeOf s g) - 1) (omega arith)
         ∙ sym (pin-is (countAt s (placeOf s g) - 1) (omega arith))
 
     gate-row : GateRow (decoded s old) (inputsOf s + g)
@@ -206,7 +206,7 @@ module _ {shape : Shape} (s old : List ℕ) (ok : checked s ≡ Accepted shape) 
     pins-are =
         rw count-is
         (tab-words (pinIn (decoded s old) (inputsOf s + g)) (countAt s (placeOf s g)) s (placeOf s g + 2)
-        (λ k l. pin-is k (omega (arith, at-record .count-eight)) ∙ sym (pin-own s (placeOf s g + 2) (countAt s (placeOf s g)) k l)))
+        (λ k l. pin-is k (omega (arith, at-record .count-eight)) ∙ sym (pin-own s (placeOf s g + 2) (countAt s (placeOf s g)) _ k l)))
 
   output-is : (o : ℕ) → o < outputsOf s → outputIn (decoded s old) (inputsOf s + gatesOf s) o ≡ outputAt s o
   output-is o h =

@@ -2,7 +2,7 @@
 use Prim.Native.Nat.{ℕ, zero, suc, _+_, _*_, _≤_, _<_}
 use native.Mathlib.Omega.{arith}
 use native.Mathlib.Nat.{add-zero}
-use mathlib.Core.Path.{_≡_, refl, _∙_}
+use mathlib.Core.Path.{_≡_, refl, sym, _∙_}
 use mathlib.Core.Bool.{Bool, true, false, _&&_}
 use mathlib.Core.List.{List, [], _∷_}
 use borrow.Author.Tests.{ltb-true, lt-leb}
@@ -12,7 +12,7 @@ use Rattle.kung.specs.Rule.{each}
 use Rattle.words.specs.Words.{wordAt}
 use Rattle.words.proofs.Refusal.{pass}
 use Rattle.making.specs.Making.{ownAt}
-use Rattle.making.proofs.Making.{own-length, own-pin}
+use Rattle.making.proofs.Making.{eight-length, eight-pin, pin-own}
 use Rattle.netlist.specs.declared.Checked.{Checked}
 use Rattle.netlist.specs.Netlist.{wordsBelow}
 
@@ -42,4 +42,4 @@ pub all-passed : (s : List ℕ) (at bound count : ℕ) → count ≤ 8 → each 
     → (number : ℕ) (next : Checked) → wordsBelow count s at bound number next ≡ next
 all-passed s at bound count h e number next =
     words-pass count s at bound number next
-    (λ j l. rw (own-pin s at count j (omega arith) l) at (ltb-true _ bound (each-at (λ x. ltb x bound) (ownAt s at count) j e (rw own-length (omega arith)))))
+    (λ j l. rw (eight-pin s at count 0 j (omega arith) ∙ sym (pin-own s at count 0 j l)) at (ltb-true _ bound (each-at (λ x. ltb x bound) (ownAt s at count) j e (rw eight-length (omega arith)))))

@@ -5,6 +5,7 @@ ghost use Rattle.rows.specs.Lent.{Room};
 ghost use Rattle.netlist.specs.Netlist.{inputsOf, gatesOf};
 ghost use Rattle.simulate.specs.Full.{fullAnswer, fullBuffer};
 use changes::Listed;
+use words::word_at;
 
 // The answer of full simulation: the classes are written, or a refusal of document 01.
 pub enum Simulated {
@@ -42,22 +43,34 @@ fn full_in(
     }
 }
 
-// Writes the class of each signal in a change into the buffer's first bytes. Room is taken by the card's size.
-pub fn full(netlist: &[u8], list: &[u8], change: usize, buffer: &mut [u8]) -> Simulated
+// The same in room for a card of any size.
+fn full_large(netlist: &[u8], list: &[u8], change: usize, buffer: &mut [u8]) -> Simulated
     ensures { λ r. ⌜ (r ≡ fullAnswer (now (netlist .entry)) (now (list .entry)) change (now (buffer .entry))) × (now (buffer .exit) ≡ fullBuffer (now (netlist .entry)) (now (list .entry)) change (now (buffer .entry))) ⌝ }
 {
-    let signals = netlist::signals_in(netlist);
-    if signals <= 64 {
-        let mut rows = [0u16; 640];
-        let mut hot = [0u8; 64];
-        return full_in(netlist, list, change, buffer, &mut rows, &mut hot);
-    }
-    if signals <= 512 {
+    if netlist::signals_in(netlist) <= 512 {
         let mut rows = [0u16; 4672];
         let mut hot = [0u8; 512];
         return full_in(netlist, list, change, buffer, &mut rows, &mut hot);
     }
     let mut rows = [0u16; 20800];
     let mut hot = [0u8; 2304];
+    full_in(netlist, list, change, buffer, &mut rows, &mut hot)
+}
+
+// Writes the class of each signal in a change into the buffer's first bytes.
+pub fn full(netlist: &[u8], list: &[u8], change: usize, buffer: &mut [u8]) -> Simulated
+    ensures { λ r. ⌜ (r ≡ fullAnswer (now (netlist .entry)) (now (list .entry)) change (now (buffer .entry))) × (now (buffer .exit) ≡ fullBuffer (now (netlist .entry)) (now (list .entry)) change (now (buffer .entry))) ⌝ }
+{
+    let inputs = word_at(netlist, 5);
+    let gates = word_at(netlist, 7);
+    // two calls, so that the larger room stays out of this frame: a small card's call would pay for it
+    if 32 < inputs {
+        return full_large(netlist, list, change, buffer);
+    }
+    if 32 < gates {
+        return full_large(netlist, list, change, buffer);
+    }
+    let mut rows = [0u16; 640];
+    let mut hot = [0u8; 64];
     full_in(netlist, list, change, buffer, &mut rows, &mut hot)
 }

@@ -6,7 +6,7 @@ use lib.ListN.{length, getD, length-set, getD-replicate}
 use lib.Seq.{getD-set-other}
 use Rattle.words.specs.Words.{wordAt}
 use Rattle.making.specs.Making.{rowPin}
-use Rattle.making.proofs.Making.{Filled, filled-more, filled-rest, row-all, pin-own}
+use Rattle.making.proofs.Making.{Filled, filled-more, filled-rest, eight-all, pin-own}
 use borrow.Author.Needs.{needs}
 use Rattle.making.proofs.row_short.Statement.{statement}
 use Rattle.making.proofs.row_short.Tie as tie
@@ -60,7 +60,7 @@ loop-again c =
     let at = a .before .before .before .args in (
       search needs,
       length-set (a .loop .row) (a .loop .j) (c .word-in2 .result) ∙ a .loop .inv .1,
-      filled-more (rowPin (at .s .now) (at .at) (at .count)) (a .loop .row) (a .loop .j) (c .word-in2 .result) (search needs) (c .word-in2 .ensures ∙ pin-own (at .s .now) (at .at) (at .count) (a .loop .j) (search needs)) (a .loop .inv .2),
+      filled-more (rowPin (at .s .now) (at .at) (at .count)) (a .loop .row) (a .loop .j) (c .word-in2 .result) (search needs) (c .word-in2 .ensures ∙ pin-own (at .s .now) (at .at) (at .count) _ (a .loop .j) (search needs)) (a .loop .inv .2),
       λ k l h. getD-set-other (a .loop .row) (a .loop .j) k (c .word-in2 .result) 0 (λ e. omega arith) ∙ a .loop .inv .3 k (omega arith) h,
     )
 
@@ -69,7 +69,7 @@ returns c =
     let a = c .before in
     let at = a .before .before .before .args in
     let last : at .at + 2 * at .count - 2 ≡ at .at + 2 * (at .count - 1) = omega arith in
-    row-all _ _ _ _ (a .loop .inv .1)
+    eight-all _ _ _ _ _ (a .loop .inv .1)
     (filled-rest (at .s .now) (at .at) (at .count) (a .loop .row)
     (λ k l. a .loop .inv .2 k (omega arith))
     (λ k l h. a .loop .inv .3 k (omega arith) h ∙ a .before .word-in .ensures ∙ ap (wordAt (at .s .now)) last))

@@ -1,20 +1,20 @@
--- `own_in`: the pins passed are the gate's own, or 0. Assumes nothing.
+-- `eight_in`: the numbers passed are the gate's own pins, or the other number. Assumes nothing.
 use Prim.Native.Nat.{ℕ, _+_, _-_, _≤_}
 use native.Mathlib.Omega.{arith}
 use mathlib.Core.Path.{_≡_, refl, _∙_, ap}
 use mathlib.Core.List.{List}
 use lib.ListN.{length, getD, length-set}
-use Rattle.making.specs.Making.{ownPin}
-use Rattle.making.proofs.Making.{Filled, filled-more, own-all, ones-low, window-zero}
+use Rattle.making.specs.Making.{pinOr}
+use Rattle.making.proofs.Making.{Filled, filled-more, eight-all, ones-low, window-pin}
 use borrow.Author.Needs.{needs}
-use Rattle.making.proofs.own_in.Statement.{statement}
-use Rattle.making.proofs.own_in.Tie as tie
+use Rattle.making.proofs.eight_in.Statement.{statement}
+use Rattle.making.proofs.eight_in.Tie as tie
 
 abbrev Inv-loop : tie.InvT-loop
-Inv-loop s window at count own₀ j₀ own j = (j ≤ 8) × (length own ≡ 8) × Filled (ownPin s at count) own j
+Inv-loop s window at count past row₀ j₀ row j = (j ≤ 8) × (length row ≡ 8) × Filled (pinOr s at count past) row j
 
 abbrev μ-loop : tie.MeasureT-loop
-μ-loop s window at count own₀ j₀ own j = 8 - j
+μ-loop s window at count past row₀ j₀ row j = 8 - j
 
 loop-holds : tie.Need-loop-holds Inv-loop μ-loop
 loop-holds c = (search needs, refl, λ k h. absurd (omega arith))
@@ -45,11 +45,11 @@ pick-requires c κs =
     let a = c .before .before .before .before .before in
     rw (a .pre .0) (ones-low _ (search needs))
 
-mul-own : tie.Need-mul-own Inv-loop μ-loop
-mul-own c = search needs
+mul-row : tie.Need-mul-row Inv-loop μ-loop
+mul-row c = search needs
 
-array-write-own : tie.Need-array-write-own Inv-loop μ-loop
-array-write-own c = search needs
+array-write-row : tie.Need-array-write-row Inv-loop μ-loop
+array-write-row c = search needs
 
 add-j : tie.Need-add-j Inv-loop μ-loop
 add-j c = search needs
@@ -63,17 +63,17 @@ loop-again c =
     let at = a .before .before .args in
     let own = ap (λ (w : List ℕ). getD w (8 - at .count + a .loop .j) 0) (a .before .before .pre .0) in (
       search needs,
-      length-set (a .loop .own) (a .loop .j) (c .pick .result) ∙ a .loop .inv .1,
-      filled-more (ownPin (at .s .now) (at .at) (at .count)) (a .loop .own) (a .loop .j) (c .pick .result) (search needs)
-          (c .pick .ensures ∙ rw (own, c .before .word-in .ensures) (window-zero (at .s .now) (at .at) (at .count) (a .loop .j) (search needs) (search needs)))
+      length-set (a .loop .row) (a .loop .j) (c .pick .result) ∙ a .loop .inv .1,
+      filled-more (pinOr (at .s .now) (at .at) (at .count) (at .past)) (a .loop .row) (a .loop .j) (c .pick .result) (search needs)
+          (c .pick .ensures ∙ rw (own, c .before .word-in .ensures) (window-pin (at .s .now) (at .at) (at .count) (at .past) (a .loop .j) (search needs) (search needs)))
           (a .loop .inv .2),
     )
 
 returns : tie.Need-returns Inv-loop μ-loop
-returns c = let l = c .before .loop in own-all _ _ _ _ (l .inv .1) (λ k h. l .inv .2 k (omega arith))
+returns c = let l = c .before .loop in eight-all _ _ _ _ _ (l .inv .1) (λ k h. l .inv .2 k (omega arith))
 
-pub own-in-spec : {M : Type 1} → statement M
-own-in-spec =
+pub eight-in-spec : {M : Type 1} → statement M
+eight-in-spec =
     tie.close
     (tie.spec
     Inv-loop
@@ -87,8 +87,8 @@ own-in-spec =
     add-word-in
     word-in-requires
     pick-requires
-    mul-own
-    array-write-own
+    mul-row
+    array-write-row
     add-j
     loop-less
     loop-again
