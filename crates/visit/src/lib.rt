@@ -110,30 +110,32 @@ fn visit(
     let word = word_of(rows, s);
     let gate = gate_in(word);
     let count = count_in(word);
-    let want = swapped(gate / 2 == 1, wanted);
-    let reach = reach_of(table, gate, want);
-    let stop = stop_bits(table, waiter, gate, reach);
     let begun = arrive(cells, tally, s, gate);
     let mut p = begun % 8;
     let mut next = begun / 8 - 2;
     let first = next;
+    let want = swapped(gate / 2 == 1, wanted);
+    let reach = reach_of(table, gate, want);
+    let stop = stop_bits(table, waiter, gate, reach);
     loop {
         if count <= next {
             let class = class_of(gate, p);
+            let answer = check_known(table, class, wanted, waiter);
             leave(cells, tally, s, known_mark(class, next), next - first);
-            return check_known(table, class, wanted, waiter);
+            return answer;
         }
         if has_class(stop, p) {
             let set = possible_set(table, gate, gate / 2 == 1, p, true);
             let class = only_class(set);
+            let answer = check_set(table, set, class, wanted, waiter);
             leave(cells, tally, s, mark_of(class, p, next), next - first);
-            return check_set(table, set, class, wanted, waiter);
+            return answer;
         }
         let x = pin_at(rows, s, next);
         next += 1;
         let goal = goal_of(next < count, reach, want);
         let ending = take(table, rows, cells, tally, x, waiter_of(gate, p), goal);
-        if ending == STOPPED {
+        if STOPPED <= ending {
             leave(cells, tally, s, open_mark(p, next), next - first);
             return STOPPED;
         }

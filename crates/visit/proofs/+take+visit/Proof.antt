@@ -106,32 +106,32 @@ visit-calls t = (
   gate-in-reads.Learnt,
   count-in-reads.Asked,
   count-in-reads.Learnt,
+  arrive-reads.Asked,
+  arrive-reads.Learnt,
   swapped-reads.Asked,
   swapped-reads.Learnt,
   reach-of-reads.Asked,
   reach-of-reads.Learnt,
   stop-bits-reads.Asked,
   stop-bits-reads.Learnt,
-  arrive-reads.Asked,
-  arrive-reads.Learnt,
   class-of-reads.Asked,
   class-of-reads.Learnt,
+  check-known-reads.Asked,
+  check-known-reads.Learnt,
   known-mark-reads.Asked,
   known-mark-reads.Learnt,
   leave-reads.Asked,
   leave-reads.Learnt,
-  check-known-reads.Asked,
-  check-known-reads.Learnt,
   has-class-reads.Asked,
   has-class-reads.Learnt,
   possible-set-reads.Asked,
   possible-set-reads.Learnt,
   only-class-reads.Asked,
   only-class-reads.Learnt,
-  mark-of-reads.Asked,
-  mark-of-reads.Learnt,
   check-set-reads.Asked,
   check-set-reads.Learnt,
+  mark-of-reads.Asked,
+  mark-of-reads.Learnt,
   pin-at-reads.Asked,
   pin-at-reads.Learnt,
   goal-of-reads.Asked,
@@ -192,12 +192,12 @@ take-returns-2 t c =
     (q .preimage-of .ensures) (v .visit .ensures)
 
 abbrev visit-Inv-loop : visit-lts.InvT-loop
-visit-Inv-loop table rows cells₀ tally₀ s wanted waiter word gate count want reach stop begun p₀ next₀ first cells tally p next =
+visit-Inv-loop table rows cells₀ tally₀ s wanted waiter word gate count begun p₀ next₀ first want reach stop cells tally p next =
     Held rows s begun cells₀ cells tally × Marks rows cells s × (first ≤ next) × (next ≤ 13) × (p < 8)
     × Rest rows (knownIn cells₀) s wanted waiter (begun % 8) (begun / 8 - 2) (cellsIn rows cells₀) p next (put (cellsIn rows cells) s (kept (ofCode p) next))
 
 abbrev visit-μ-loop : visit-lts.MeasureT-loop
-visit-μ-loop table rows cells₀ tally₀ s wanted waiter word gate count want reach stop begun p₀ next₀ first cells tally p next = count - next
+visit-μ-loop table rows cells₀ tally₀ s wanted waiter word gate count begun p₀ next₀ first want reach stop cells tally p next = count - next
 
 -- the gate that is visited
 visit-row : (t : ℕ) (c : visit-lts.Start (visit-calls t) (visit-at t) visit.Post visit-Inv-loop visit-μ-loop) → GateRow (c .args .rows .now) (c .args .s)
@@ -223,7 +223,7 @@ visit-stop-bits-requires t c κs = search needs
 
 visit-arrive-requires : (t : ℕ) → visit-lts.Need-arrive-requires (visit-calls t) (visit-at t) visit.Post visit-Inv-loop visit-μ-loop
 visit-arrive-requires t c κs =
-    let s = c .before .before .before .before .before .before .before .before .before .before in
+    let s = c .before .before .before .before .before .before .before in
     let l = s .pre .1 .1 .0 in
     let cells = cellsIn (s .args .rows .now) (s .args .cells .now) in (
       l .there,
@@ -233,7 +233,7 @@ visit-arrive-requires t c κs =
 -- on arrival
 module _ (t : ℕ) (c : visit-lts.After-arrive (visit-calls t) (visit-at t) visit.Post visit-Inv-loop visit-μ-loop) where
   abbrev gated : visit-lts.After-gate-in (visit-calls t) (visit-at t) visit.Post visit-Inv-loop visit-μ-loop
-  gated = c .before .before .before .before .before .before .before
+  gated = c .before .before .before .before
 
   abbrev entered : visit-lts.Start (visit-calls t) (visit-at t) visit.Post visit-Inv-loop visit-μ-loop
   entered = gated .before .before .before .before
@@ -259,7 +259,7 @@ visit-sub-next t c = omega (arith, begun-at t (c .before .before) .large)
 
 visit-loop-holds : (t : ℕ) → visit-lts.Need-loop-holds (visit-calls t) (visit-at t) visit.Post visit-Inv-loop visit-μ-loop
 visit-loop-holds t c =
-    let v = c .before .before in
+    let v = c .before .before .before .before .before in
     let a = entered t v .args in
     let b = v .arrive .result in
     let rows = a .rows .now in
@@ -278,10 +278,10 @@ visit-loop-holds t c =
 -- in the loop
 module _ (t : ℕ) (c : visit-lts.At-loop (visit-calls t) (visit-at t) visit.Post visit-Inv-loop visit-μ-loop) where
   abbrev here : visit-lts.After-arrive (visit-calls t) (visit-at t) visit.Post visit-Inv-loop visit-μ-loop
-  here = c .before .before .before
+  here = c .before .before .before .before .before .before
 
   abbrev counting : visit-lts.After-count-in (visit-calls t) (visit-at t) visit.Post visit-Inv-loop visit-μ-loop
-  counting = here .before .before .before .before .before .before
+  counting = here .before .before .before
 
   abbrev begin : visit-lts.Start (visit-calls t) (visit-at t) visit.Post visit-Inv-loop visit-μ-loop
   begin = entered t here
@@ -313,15 +313,15 @@ module _ (t : ℕ) (c : visit-lts.At-loop (visit-calls t) (visit-at t) visit.Pos
   inversion : eqb (Gate / 2) 1 ≡ inverts (rowKind Rows Signal)
   inversion = ap (λ g. eqb (g / 2) 1) (gate-is t here) ∙ inverts-is (wordIn Rows Signal)
 
-  want-is : here .before .before .before .before .before .swapped .result ≡ swapIf (eqb (Gate / 2) 1) (begin .args .wanted)
-  want-is = here .before .before .before .before .before .swapped .ensures
+  want-is : c .before .before .before .swapped .result ≡ swapIf (eqb (Gate / 2) 1) (begin .args .wanted)
+  want-is = c .before .before .before .swapped .ensures
 
-  reach-is : here .before .before .before .before .reach-of .result ≡ reach (opAt Gate) (swapIf (eqb (Gate / 2) 1) (begin .args .wanted))
-  reach-is = here .before .before .before .before .reach-of .ensures ∙ ap (reach (opAt Gate)) want-is
+  reach-is : c .before .before .reach-of .result ≡ reach (opAt Gate) (swapIf (eqb (Gate / 2) 1) (begin .args .wanted))
+  reach-is = c .before .before .reach-of .ensures ∙ ap (reach (opAt Gate)) want-is
 
-  stop-is : here .before .before .before .stop-bits .result
+  stop-is : c .before .stop-bits .result
       ≡ stopSet (begin .args .waiter) Gate (reach (opAt Gate) (swapIf (eqb (Gate / 2) 1) (begin .args .wanted)))
-  stop-is = here .before .before .before .stop-bits .ensures ∙ ap (stopSet (begin .args .waiter) Gate) reach-is
+  stop-is = c .before .stop-bits .ensures ∙ ap (stopSet (begin .args .waiter) Gate) reach-is
 
   -- the possible set and the checks, by the row's kind
   abbrev Set : ℕ
@@ -366,33 +366,34 @@ visit-class-of-requires t c κs = omega (arith, gated t (here t (c .before)) .ga
 
 visit-known-mark-requires : (t : ℕ) → visit-lts.Need-known-mark-requires (visit-calls t) (visit-at t) visit.Post visit-Inv-loop visit-μ-loop
 visit-known-mark-requires t c κs =
-    let k = c .before .before in
+    let k = c .before .before .before in
     let l = k .before .before in
     (omega (arith, k .class-of .ensures, code-small (invertIf (eqb (Gate t l / 2) 1) (ofCode (l .loop .p)))), l .loop .inv .3)
 
 visit-sub-leave : (t : ℕ) → visit-lts.Need-sub-leave (visit-calls t) (visit-at t) visit.Post visit-Inv-loop visit-μ-loop
-visit-sub-leave t c = c .before .before .before .before .before .loop .inv .2
+visit-sub-leave t c = c .before .before .before .before .before .before .loop .inv .2
 
 visit-leave-requires : (t : ℕ) → visit-lts.Need-leave-requires (visit-calls t) (visit-at t) visit.Post visit-Inv-loop visit-μ-loop
 visit-leave-requires t c κs =
-    let l = c .before .before .before .before .before in
+    let l = c .before .before .before .before .before .before in
     (l .loop .inv .0 .there, room t l)
 
 visit-check-known-requires : (t : ℕ) → visit-lts.Need-check-known-requires (visit-calls t) (visit-at t) visit.Post visit-Inv-loop visit-μ-loop
 visit-check-known-requires t c κs =
-    let s = begin t (c .before .before .before .before .before .before .before .before) in
+    let s = begin t (c .before .before) in
     (s .pre .1 .0 .table-is, s .pre .1 .1 .2)
 
 visit-same-length : (t : ℕ) → visit-lts.Need-same-length (visit-calls t) (visit-at t) visit.Post visit-Inv-loop visit-μ-loop
 visit-same-length t c =
     let l = c .before .before .before .before .before .before .before .before .before in
-    c .before .before .before .leave .kept .0 ∙ long t l
+    c .before .before .leave .kept .0 ∙ long t l
 
 visit-returns : (t : ℕ) → visit-lts.Need-returns (visit-calls t) (visit-at t) visit.Post visit-Inv-loop visit-μ-loop
 visit-returns t c =
-    let v = c .before .before .before in
+    let v = c .before .before in
     let m = v .before in
-    let k = m .before .before .before in
+    let n = m .before .before .before in
+    let k = n .before in
     let e = k .before in
     let l = e .before in
     let a = begin t l .args in
@@ -401,11 +402,11 @@ visit-returns t c =
     let last : k .class-of .result ≡ code (invertIf (inverts d) (ofCode (l .loop .p))) = k .class-of .ensures ∙ ap (λ v. code (invertIf v (ofCode (l .loop .p)))) (inversion t l) in
     let own : ofCode (k .class-of .result) ≡ invertIf (inverts d) (ofCode (l .loop .p)) = ap ofCode last ∙ ofCode-code (invertIf (inverts d) (ofCode (l .loop .p))) in
     let small : k .class-of .result < 8 = omega (arith, last, code-small (invertIf (inverts d) (ofCode (l .loop .p)))) in
-    checked t l (k .class-of .result) (m .known-mark .result) (c .check-known .result) (v .leave .last .0) (v .leave .last .1 .0)
+    checked t l (k .class-of .result) (m .known-mark .result) (n .check-known .result) (v .leave .last .0) (v .leave .last .1 .0)
     (rw none (last ∙ sym (last-class d (ofCode (l .loop .p)) (a .wanted) (a .waiter))))
     (rw (lt-ltb (k .class-of .result) 8 small) (m .known-mark .ensures)) (omega arith) (v .leave .ensures .0) (v .leave .ensures .1)
     (rw none (last-ends d (ofCode (l .loop .p)) (a .wanted) (a .waiter)))
-    (rw none (c .check-known .ensures ∙ ap (λ k. cond (has (a .wanted) k) (code (joinedBy (a .waiter) k)) 8) own ∙ last-is d (ofCode (l .loop .p)) (a .wanted) (a .waiter)))
+    (rw none (n .check-known .ensures ∙ ap (λ k. cond (has (a .wanted) k) (code (joinedBy (a .waiter) k)) 8) own ∙ last-is d (ofCode (l .loop .p)) (a .wanted) (a .waiter)))
 
 -- a pin is left, and the stop bits were looked at
 module _ (t : ℕ) (c : visit-lts.After-has-class (visit-calls t) (visit-at t) visit.Post visit-Inv-loop visit-μ-loop) where
@@ -435,32 +436,32 @@ visit-only-class-requires : (t : ℕ) → visit-lts.Need-only-class-requires (vi
 visit-only-class-requires t c κs = search needs
 
 visit-mark-of-requires : (t : ℕ) → visit-lts.Need-mark-of-requires (visit-calls t) (visit-at t) visit.Post visit-Inv-loop visit-μ-loop
-visit-mark-of-requires t c κs = c .before .before .before .before .before .before .before .loop .inv .3
+visit-mark-of-requires t c κs = c .before .before .before .before .before .before .before .before .loop .inv .3
 
 visit-sub-leave-2 : (t : ℕ) → visit-lts.Need-sub-leave-2 (visit-calls t) (visit-at t) visit.Post visit-Inv-loop visit-μ-loop
-visit-sub-leave-2 t c = c .before .before .before .before .before .before .before .before .loop .inv .2
+visit-sub-leave-2 t c = c .before .before .before .before .before .before .before .before .before .loop .inv .2
 
 visit-leave-requires-2 : (t : ℕ) → visit-lts.Need-leave-requires-2 (visit-calls t) (visit-at t) visit.Post visit-Inv-loop visit-μ-loop
 visit-leave-requires-2 t c κs =
-    let l = c .before .before .before .before .before .before .before .before in
+    let l = c .before .before .before .before .before .before .before .before .before in
     (l .loop .inv .0 .there, room t l)
 
 visit-check-set-requires : (t : ℕ) → visit-lts.Need-check-set-requires (visit-calls t) (visit-at t) visit.Post visit-Inv-loop visit-μ-loop
 visit-check-set-requires t c κs =
-    let o = c .before .before .before .before .before .before in
-    let s = begin t (o .before .before .before .before .before) in
-    (s .pre .1 .0 .table-is, s .pre .1 .1 .2, o .only-class .ensures ∙ only-code (o .before .possible-set .result) (omega arith))
+    let s = begin t (c .before .before .before .before .before) in
+    (s .pre .1 .0 .table-is, s .pre .1 .1 .2, c .only-class .ensures ∙ only-code (c .before .possible-set .result) (omega arith))
 
 visit-same-length-2 : (t : ℕ) → visit-lts.Need-same-length-2 (visit-calls t) (visit-at t) visit.Post visit-Inv-loop visit-μ-loop
 visit-same-length-2 t c =
-    let v = c .before .before .before in
-    v .leave2 .kept .0 ∙ long t (turn t (v .before .before .before .before .before .before .before))
+    let v = c .before .before in
+    v .leave2 .kept .0 ∙ long t (turn t (v .before .before .before .before .before .before .before .before))
 
 visit-returns-2 : (t : ℕ) → visit-lts.Need-returns-2 (visit-calls t) (visit-at t) visit.Post visit-Inv-loop visit-μ-loop
 visit-returns-2 t c =
-    let v = c .before .before .before in
+    let v = c .before .before in
     let m = v .before in
-    let o = m .before .before .before in
+    let n = m .before .before .before in
+    let o = n .before in
     let q = o .before in
     let h = q .before .before in
     let l = turn t h in
@@ -468,10 +469,10 @@ visit-returns-2 t c =
     let set-is : q .possible-set .result ≡ Set t l =
     q .possible-set .ensures ∙ (λ i. possible (operation t l i) (inversion t l i) (ofCode (l .loop .p)) (sym (more t h) i))
     in
-    checked t l (o .only-class .result) (m .mark-of .result) (c .check-set .result) (v .leave2 .last .0) (v .leave2 .last .1 .0)
+    checked t l (o .only-class .result) (m .mark-of .result) (n .check-set .result) (v .leave2 .last .0) (v .leave2 .last .1 .0)
     (o .only-class .ensures ∙ only-code (q .possible-set .result) (omega arith) ∙ ap (λ m. codeOr (only m)) set-is) (m .mark-of .ensures) (omega arith)
     (v .leave2 .ensures .0) (v .leave2 .ensures .1) (sym (over-is t h) ∙ q .before .if2 .taken)
-    (c .check-set .ensures ∙ ap (λ m. checkOf (waitingOf (a .waiter)) (checks m (a .wanted) (waitingOf (a .waiter)))) set-is)
+    (n .check-set .ensures ∙ ap (λ m. checkOf (waitingOf (a .waiter)) (checks m (a .wanted) (waitingOf (a .waiter)))) set-is)
 
 visit-pin-at-requires : (t : ℕ) → visit-lts.Need-pin-at-requires (visit-calls t) (visit-at t) visit.Post visit-Inv-loop visit-μ-loop
 visit-pin-at-requires t c κs =
@@ -659,7 +660,7 @@ visit-returns-3 t c =
     (ap (cellIn (invertsIn (wordIn (Rows t l) (Signal t l)))) (m .open-mark .ensures)
     ∙ open-cell (invertsIn (wordIn (Rows t l) (Signal t l))) (l .loop .p) (l .loop .next + 1) few)
     (omega (arith, m .open-mark .ensures)) (omega arith) (omega (arith, l .loop .inv .2)) (v .leave3 .last .0) (v .leave3 .last .1 .0) (v .leave3 .ensures .0)
-    (v .leave3 .ensures .1) 8 (stopped-by t k (e .if3 .taken)) (λ h. absurd (omega arith))
+    (v .leave3 .ensures .1) 8 (stopped-by t k (omega (arith, small t k, e .if3 .taken))) (λ h. absurd (omega arith))
 
 visit-loop-less : (t : ℕ) → visit-lts.Need-loop-less (visit-calls t) (visit-at t) visit.Post visit-Inv-loop visit-μ-loop
 visit-loop-less t c =
@@ -711,26 +712,26 @@ pub +take+visit-spec : {M : Type 1} → statement M
     (visit-word-of-requires t)
     (visit-gate-in-requires t)
     (visit-count-in-requires t)
+    (visit-arrive-requires t)
+    (visit-sub-next t)
     (visit-swapped-requires t)
     (visit-reach-of-requires t)
     (visit-stop-bits-requires t)
-    (visit-arrive-requires t)
-    (visit-sub-next t)
     (visit-loop-holds t)
     (visit-class-of-requires t)
+    (visit-check-known-requires t)
     (visit-known-mark-requires t)
     (visit-sub-leave t)
     (visit-leave-requires t)
-    (visit-check-known-requires t)
     (visit-same-length t)
     (visit-returns t)
     (visit-has-class-requires t)
     (visit-possible-set-requires t)
     (visit-only-class-requires t)
+    (visit-check-set-requires t)
     (visit-mark-of-requires t)
     (visit-sub-leave-2 t)
     (visit-leave-requires-2 t)
-    (visit-check-set-requires t)
     (visit-same-length-2 t)
     (visit-returns-2 t)
     (visit-pin-at-requires t)
