@@ -117,13 +117,7 @@ fn visit(
     let want = swapped(gate / 2 == 1, wanted);
     let reach = reach_of(table, gate, want);
     let stop = stop_bits(table, waiter, gate, reach);
-    loop {
-        if count <= next {
-            let class = class_of(gate, p);
-            let answer = check_known(table, class, wanted, waiter);
-            leave(cells, tally, s, known_mark(class, next), next - first);
-            return answer;
-        }
+    while next < count {
         if has_class(stop, p) {
             let set = possible_set(table, gate, gate / 2 == 1, p, true);
             let class = only_class(set);
@@ -141,6 +135,10 @@ fn visit(
         }
         p = ending;
     }
+    let class = class_of(gate, p);
+    let answer = check_known(table, class, wanted, waiter);
+    leave(cells, tally, s, known_mark(class, next), next - first);
+    answer
 }
 
 // A pin on signal x is taken: the gate behind it is visited, unless its class is told.

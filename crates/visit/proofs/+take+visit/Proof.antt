@@ -114,14 +114,6 @@ visit-calls t = (
   reach-of-reads.Learnt,
   stop-bits-reads.Asked,
   stop-bits-reads.Learnt,
-  class-of-reads.Asked,
-  class-of-reads.Learnt,
-  check-known-reads.Asked,
-  check-known-reads.Learnt,
-  known-mark-reads.Asked,
-  known-mark-reads.Learnt,
-  leave-reads.Asked,
-  leave-reads.Learnt,
   has-class-reads.Asked,
   has-class-reads.Learnt,
   possible-set-reads.Asked,
@@ -132,6 +124,8 @@ visit-calls t = (
   check-set-reads.Learnt,
   mark-of-reads.Asked,
   mark-of-reads.Learnt,
+  leave-reads.Asked,
+  leave-reads.Learnt,
   pin-at-reads.Asked,
   pin-at-reads.Learnt,
   goal-of-reads.Asked,
@@ -142,6 +136,12 @@ visit-calls t = (
   take.Post,
   open-mark-reads.Asked,
   open-mark-reads.Learnt,
+  class-of-reads.Asked,
+  class-of-reads.Learnt,
+  check-known-reads.Asked,
+  check-known-reads.Learnt,
+  known-mark-reads.Asked,
+  known-mark-reads.Learnt,
 )
 
 take-slice-read-byte : (t : ℕ) → take-lts.Need-slice-read-byte (take-calls t) (take-at t) take.Post
@@ -361,60 +361,13 @@ module _ (t : ℕ) (c : visit-lts.At-loop (visit-calls t) (visit-at t) visit.Pos
       (put (cellsIn Rows (l .cells)) Signal (kept (ofCode (l .p)) (l .next))) rest-is (cellsIn Rows Entry) (begun-at t here .starts) over r h)
       (λ small. (l .inv .1, marked-told Rows Signal (l .p) (l .next) class mark found (l .inv .3) is-mark))
 
-visit-class-of-requires : (t : ℕ) → visit-lts.Need-class-of-requires (visit-calls t) (visit-at t) visit.Post visit-Inv-loop visit-μ-loop
-visit-class-of-requires t c κs = omega (arith, gated t (here t (c .before)) .gate-in .ensures)
-
-visit-known-mark-requires : (t : ℕ) → visit-lts.Need-known-mark-requires (visit-calls t) (visit-at t) visit.Post visit-Inv-loop visit-μ-loop
-visit-known-mark-requires t c κs =
-    let k = c .before .before .before in
-    let l = k .before .before in
-    (omega (arith, k .class-of .ensures, code-small (invertIf (eqb (Gate t l / 2) 1) (ofCode (l .loop .p)))), l .loop .inv .3)
-
-visit-sub-leave : (t : ℕ) → visit-lts.Need-sub-leave (visit-calls t) (visit-at t) visit.Post visit-Inv-loop visit-μ-loop
-visit-sub-leave t c = c .before .before .before .before .before .before .loop .inv .2
-
-visit-leave-requires : (t : ℕ) → visit-lts.Need-leave-requires (visit-calls t) (visit-at t) visit.Post visit-Inv-loop visit-μ-loop
-visit-leave-requires t c κs =
-    let l = c .before .before .before .before .before .before in
-    (l .loop .inv .0 .there, room t l)
-
-visit-check-known-requires : (t : ℕ) → visit-lts.Need-check-known-requires (visit-calls t) (visit-at t) visit.Post visit-Inv-loop visit-μ-loop
-visit-check-known-requires t c κs =
-    let s = begin t (c .before .before) in
-    (s .pre .1 .0 .table-is, s .pre .1 .1 .2)
-
-visit-same-length : (t : ℕ) → visit-lts.Need-same-length (visit-calls t) (visit-at t) visit.Post visit-Inv-loop visit-μ-loop
-visit-same-length t c =
-    let l = c .before .before .before .before .before .before .before .before .before in
-    c .before .before .leave .kept .0 ∙ long t l
-
-visit-returns : (t : ℕ) → visit-lts.Need-returns (visit-calls t) (visit-at t) visit.Post visit-Inv-loop visit-μ-loop
-visit-returns t c =
-    let v = c .before .before in
-    let m = v .before in
-    let n = m .before .before .before in
-    let k = n .before in
-    let e = k .before in
-    let l = e .before in
-    let a = begin t l .args in
-    let d = rowKind (Rows t l) (Signal t l) in
-    let none : ltb (l .loop .next) (countIn (wordIn (Rows t l) (Signal t l))) ≡ false = le-ltb (l .loop .next) (countIn (wordIn (Rows t l) (Signal t l))) (omega (arith, count-is t l, e .if1 .taken)) in
-    let last : k .class-of .result ≡ code (invertIf (inverts d) (ofCode (l .loop .p))) = k .class-of .ensures ∙ ap (λ v. code (invertIf v (ofCode (l .loop .p)))) (inversion t l) in
-    let own : ofCode (k .class-of .result) ≡ invertIf (inverts d) (ofCode (l .loop .p)) = ap ofCode last ∙ ofCode-code (invertIf (inverts d) (ofCode (l .loop .p))) in
-    let small : k .class-of .result < 8 = omega (arith, last, code-small (invertIf (inverts d) (ofCode (l .loop .p)))) in
-    checked t l (k .class-of .result) (m .known-mark .result) (n .check-known .result) (v .leave .last .0) (v .leave .last .1 .0)
-    (rw none (last ∙ sym (last-class d (ofCode (l .loop .p)) (a .wanted) (a .waiter))))
-    (rw (lt-ltb (k .class-of .result) 8 small) (m .known-mark .ensures)) (omega arith) (v .leave .ensures .0) (v .leave .ensures .1)
-    (rw none (last-ends d (ofCode (l .loop .p)) (a .wanted) (a .waiter)))
-    (rw none (n .check-known .ensures ∙ ap (λ k. cond (has (a .wanted) k) (code (joinedBy (a .waiter) k)) 8) own ∙ last-is d (ofCode (l .loop .p)) (a .wanted) (a .waiter)))
-
 -- a pin is left, and the stop bits were looked at
 module _ (t : ℕ) (c : visit-lts.After-has-class (visit-calls t) (visit-at t) visit.Post visit-Inv-loop visit-μ-loop) where
   abbrev turn : visit-lts.At-loop (visit-calls t) (visit-at t) visit.Post visit-Inv-loop visit-μ-loop
   turn = c .before .before
 
   more-pins : turn .loop .next < countIn (wordIn (Rows t turn) (Signal t turn))
-  more-pins = omega (arith, count-is t turn, c .before .if1 .left)
+  more-pins = omega (arith, count-is t turn, c .before .loop-test .taken)
 
   more : ltb (turn .loop .next) (countIn (wordIn (Rows t turn) (Signal t turn))) ≡ true
   more = lt-ltb (turn .loop .next) (countIn (wordIn (Rows t turn) (Signal t turn))) more-pins
@@ -438,11 +391,11 @@ visit-only-class-requires t c κs = search needs
 visit-mark-of-requires : (t : ℕ) → visit-lts.Need-mark-of-requires (visit-calls t) (visit-at t) visit.Post visit-Inv-loop visit-μ-loop
 visit-mark-of-requires t c κs = c .before .before .before .before .before .before .before .before .loop .inv .3
 
-visit-sub-leave-2 : (t : ℕ) → visit-lts.Need-sub-leave-2 (visit-calls t) (visit-at t) visit.Post visit-Inv-loop visit-μ-loop
-visit-sub-leave-2 t c = c .before .before .before .before .before .before .before .before .before .loop .inv .2
+visit-sub-leave : (t : ℕ) → visit-lts.Need-sub-leave (visit-calls t) (visit-at t) visit.Post visit-Inv-loop visit-μ-loop
+visit-sub-leave t c = c .before .before .before .before .before .before .before .before .before .loop .inv .2
 
-visit-leave-requires-2 : (t : ℕ) → visit-lts.Need-leave-requires-2 (visit-calls t) (visit-at t) visit.Post visit-Inv-loop visit-μ-loop
-visit-leave-requires-2 t c κs =
+visit-leave-requires : (t : ℕ) → visit-lts.Need-leave-requires (visit-calls t) (visit-at t) visit.Post visit-Inv-loop visit-μ-loop
+visit-leave-requires t c κs =
     let l = c .before .before .before .before .before .before .before .before .before in
     (l .loop .inv .0 .there, room t l)
 
@@ -451,13 +404,13 @@ visit-check-set-requires t c κs =
     let s = begin t (c .before .before .before .before .before) in
     (s .pre .1 .0 .table-is, s .pre .1 .1 .2, c .only-class .ensures ∙ only-code (c .before .possible-set .result) (omega arith))
 
-visit-same-length-2 : (t : ℕ) → visit-lts.Need-same-length-2 (visit-calls t) (visit-at t) visit.Post visit-Inv-loop visit-μ-loop
-visit-same-length-2 t c =
+visit-same-length : (t : ℕ) → visit-lts.Need-same-length (visit-calls t) (visit-at t) visit.Post visit-Inv-loop visit-μ-loop
+visit-same-length t c =
     let v = c .before .before in
-    v .leave2 .kept .0 ∙ long t (turn t (v .before .before .before .before .before .before .before .before))
+    v .leave .kept .0 ∙ long t (turn t (v .before .before .before .before .before .before .before .before))
 
-visit-returns-2 : (t : ℕ) → visit-lts.Need-returns-2 (visit-calls t) (visit-at t) visit.Post visit-Inv-loop visit-μ-loop
-visit-returns-2 t c =
+visit-returns : (t : ℕ) → visit-lts.Need-returns (visit-calls t) (visit-at t) visit.Post visit-Inv-loop visit-μ-loop
+visit-returns t c =
     let v = c .before .before in
     let m = v .before in
     let n = m .before .before .before in
@@ -469,9 +422,9 @@ visit-returns-2 t c =
     let set-is : q .possible-set .result ≡ Set t l =
     q .possible-set .ensures ∙ (λ i. possible (operation t l i) (inversion t l i) (ofCode (l .loop .p)) (sym (more t h) i))
     in
-    checked t l (o .only-class .result) (m .mark-of .result) (n .check-set .result) (v .leave2 .last .0) (v .leave2 .last .1 .0)
+    checked t l (o .only-class .result) (m .mark-of .result) (n .check-set .result) (v .leave .last .0) (v .leave .last .1 .0)
     (o .only-class .ensures ∙ only-code (q .possible-set .result) (omega arith) ∙ ap (λ m. codeOr (only m)) set-is) (m .mark-of .ensures) (omega arith)
-    (v .leave2 .ensures .0) (v .leave2 .ensures .1) (sym (over-is t h) ∙ q .before .if2 .taken)
+    (v .leave .ensures .0) (v .leave .ensures .1) (sym (over-is t h) ∙ q .before .if1 .taken)
     (n .check-set .ensures ∙ ap (λ m. checkOf (waitingOf (a .waiter)) (checks m (a .wanted) (waitingOf (a .waiter)))) set-is)
 
 visit-pin-at-requires : (t : ℕ) → visit-lts.Need-pin-at-requires (visit-calls t) (visit-at t) visit.Post visit-Inv-loop visit-μ-loop
@@ -589,7 +542,7 @@ module _ (t : ℕ) (c : visit-lts.After-take (visit-calls t) (visit-at t) visit.
       (known-is t at-pin) (c .take .ensures .is))
 
   going-on : ended (Checked t looped) ≡ false
-  going-on = sym (over-is t (tested t at-pin)) ∙ pinned t at-pin .before .if2 .left
+  going-on = sym (over-is t (tested t at-pin)) ∙ pinned t at-pin .before .if1 .left
 
   waiting-is : waitingOf (at-pin .waiter-of .result)
       ≡ waits (opOf (rowKind (Rows t looped) (Signal t looped))) (ofCode (looped .loop .p))
@@ -630,23 +583,23 @@ visit-open-mark-requires t c κs =
     let w = c .before .before .before .before .before .before in
     (loops t w .loop .inv .4, omega (arith, more-pins t (tested t w), eight t w))
 
-visit-sub-leave-3 : (t : ℕ) → visit-lts.Need-sub-leave-3 (visit-calls t) (visit-at t) visit.Post visit-Inv-loop visit-μ-loop
-visit-sub-leave-3 t c = omega (arith, loops t (c .before .before .before .before .before .before .before) .loop .inv .2)
+visit-sub-leave-2 : (t : ℕ) → visit-lts.Need-sub-leave-2 (visit-calls t) (visit-at t) visit.Post visit-Inv-loop visit-μ-loop
+visit-sub-leave-2 t c = omega (arith, loops t (c .before .before .before .before .before .before .before) .loop .inv .2)
 
-visit-leave-requires-3 : (t : ℕ) → visit-lts.Need-leave-requires-3 (visit-calls t) (visit-at t) visit.Post visit-Inv-loop visit-μ-loop
-visit-leave-requires-3 t c κs =
+visit-leave-requires-2 : (t : ℕ) → visit-lts.Need-leave-requires-2 (visit-calls t) (visit-at t) visit.Post visit-Inv-loop visit-μ-loop
+visit-leave-requires-2 t c κs =
     let k = c .before .before .before .before .before .before in
     let l = looped t k in
     (held t k .there, held-pins (Rows t l) (Signal t l) (Byte t l) (here t l .arrive .last .0) (After t k) (Tally t k) (held t k))
 
-visit-same-length-3 : (t : ℕ) → visit-lts.Need-same-length-3 (visit-calls t) (visit-at t) visit.Post visit-Inv-loop visit-μ-loop
-visit-same-length-3 t c =
+visit-same-length-2 : (t : ℕ) → visit-lts.Need-same-length-2 (visit-calls t) (visit-at t) visit.Post visit-Inv-loop visit-μ-loop
+visit-same-length-2 t c =
     let v = c .before .before in
     let k = v .before .before .before .before .before .before .before in
-    v .leave3 .kept .0 ∙ k .take .kept .1 .1 .0 ∙ long t (looped t k)
+    v .leave2 .kept .0 ∙ k .take .kept .1 .1 .0 ∙ long t (looped t k)
 
-visit-returns-3 : (t : ℕ) → visit-lts.Need-returns-3 (visit-calls t) (visit-at t) visit.Post visit-Inv-loop visit-μ-loop
-visit-returns-3 t c =
+visit-returns-2 : (t : ℕ) → visit-lts.Need-returns-2 (visit-calls t) (visit-at t) visit.Post visit-Inv-loop visit-μ-loop
+visit-returns-2 t c =
     let v = c .before .before in
     let m = v .before in
     let e = m .before .before .before in
@@ -659,8 +612,8 @@ visit-returns-3 t c =
     (Tally t k) (begun-at t (here t l)) (held t k) (l .loop .p) (l .loop .next + 1) (m .open-mark .result)
     (ap (cellIn (invertsIn (wordIn (Rows t l) (Signal t l)))) (m .open-mark .ensures)
     ∙ open-cell (invertsIn (wordIn (Rows t l) (Signal t l))) (l .loop .p) (l .loop .next + 1) few)
-    (omega (arith, m .open-mark .ensures)) (omega arith) (omega (arith, l .loop .inv .2)) (v .leave3 .last .0) (v .leave3 .last .1 .0) (v .leave3 .ensures .0)
-    (v .leave3 .ensures .1) 8 (stopped-by t k (omega (arith, small t k, e .if3 .taken))) (λ h. absurd (omega arith))
+    (omega (arith, m .open-mark .ensures)) (omega arith) (omega (arith, l .loop .inv .2)) (v .leave2 .last .0) (v .leave2 .last .1 .0) (v .leave2 .ensures .0)
+    (v .leave2 .ensures .1) 8 (stopped-by t k (omega (arith, small t k, e .if2 .taken))) (λ h. absurd (omega arith))
 
 visit-loop-less : (t : ℕ) → visit-lts.Need-loop-less (visit-calls t) (visit-at t) visit.Post visit-Inv-loop visit-μ-loop
 visit-loop-less t c =
@@ -673,7 +626,7 @@ visit-loop-again t c =
     let w = k .before in
     let l = looped t k in
     let a = begin t l .args in
-    let less : k .take .result < 8 = omega (arith, small t k, c .if3 .left) in (
+    let less : k .take .result < 8 = omega (arith, small t k, c .if2 .left) in (
       held t k,
       marks-after (Rows t l) (Signal t l) (Byte t l) (here t l .arrive .last .0) (l .loop .cells) (l .loop .tally) (pinned t w .pin-at .result) (Wanted t w)
           (w .waiter-of .result) (After t k) (Tally t k) (k .take .result) (below t w) (k .take .ensures) less (l .loop .inv .1),
@@ -691,6 +644,54 @@ visit-loop-again t c =
           (put-put (cellsIn (Rows t l) (After t k)) (Signal t l) (ofCode (l .loop .p)) (ofCode (k .take .result)) (l .loop .next + 1) (l .loop .next + 1))
           (next-by t k less)),
     )
+
+-- no pin is left
+visit-class-of-requires : (t : ℕ) → visit-lts.Need-class-of-requires (visit-calls t) (visit-at t) visit.Post visit-Inv-loop visit-μ-loop
+visit-class-of-requires t c κs = omega (arith, gated t (here t (c .before)) .gate-in .ensures)
+
+visit-known-mark-requires : (t : ℕ) → visit-lts.Need-known-mark-requires (visit-calls t) (visit-at t) visit.Post visit-Inv-loop visit-μ-loop
+visit-known-mark-requires t c κs =
+    let k = c .before .before .before in
+    let l = k .before .before in
+    (omega (arith, k .class-of .ensures, code-small (invertIf (eqb (Gate t l / 2) 1) (ofCode (l .loop .p)))), l .loop .inv .3)
+
+visit-sub-leave-3 : (t : ℕ) → visit-lts.Need-sub-leave-3 (visit-calls t) (visit-at t) visit.Post visit-Inv-loop visit-μ-loop
+visit-sub-leave-3 t c = c .before .before .before .before .before .before .loop .inv .2
+
+visit-leave-requires-3 : (t : ℕ) → visit-lts.Need-leave-requires-3 (visit-calls t) (visit-at t) visit.Post visit-Inv-loop visit-μ-loop
+visit-leave-requires-3 t c κs =
+    let l = c .before .before .before .before .before .before in
+    (l .loop .inv .0 .there, room t l)
+
+visit-check-known-requires : (t : ℕ) → visit-lts.Need-check-known-requires (visit-calls t) (visit-at t) visit.Post visit-Inv-loop visit-μ-loop
+visit-check-known-requires t c κs =
+    let s = begin t (c .before .before) in
+    (s .pre .1 .0 .table-is, s .pre .1 .1 .2)
+
+visit-same-length-3 : (t : ℕ) → visit-lts.Need-same-length-3 (visit-calls t) (visit-at t) visit.Post visit-Inv-loop visit-μ-loop
+visit-same-length-3 t c =
+    let l = c .before .before .before .before .before .before .before .before .before in
+    c .before .before .leave3 .kept .0 ∙ long t l
+
+visit-returns-3 : (t : ℕ) → visit-lts.Need-returns-3 (visit-calls t) (visit-at t) visit.Post visit-Inv-loop visit-μ-loop
+visit-returns-3 t c =
+    let v = c .before .before in
+    let m = v .before in
+    let n = m .before .before .before in
+    let k = n .before in
+    let e = k .before in
+    let l = e .before in
+    let a = begin t l .args in
+    let d = rowKind (Rows t l) (Signal t l) in
+    let none : ltb (l .loop .next) (countIn (wordIn (Rows t l) (Signal t l))) ≡ false = le-ltb (l .loop .next) (countIn (wordIn (Rows t l) (Signal t l))) (omega (arith, count-is t l, e .loop-test .left)) in
+    let last : k .class-of .result ≡ code (invertIf (inverts d) (ofCode (l .loop .p))) = k .class-of .ensures ∙ ap (λ v. code (invertIf v (ofCode (l .loop .p)))) (inversion t l) in
+    let own : ofCode (k .class-of .result) ≡ invertIf (inverts d) (ofCode (l .loop .p)) = ap ofCode last ∙ ofCode-code (invertIf (inverts d) (ofCode (l .loop .p))) in
+    let small : k .class-of .result < 8 = omega (arith, last, code-small (invertIf (inverts d) (ofCode (l .loop .p)))) in
+    checked t l (k .class-of .result) (m .known-mark .result) (n .check-known .result) (v .leave3 .last .0) (v .leave3 .last .1 .0)
+    (rw none (last ∙ sym (last-class d (ofCode (l .loop .p)) (a .wanted) (a .waiter))))
+    (rw (lt-ltb (k .class-of .result) 8 small) (m .known-mark .ensures)) (omega arith) (v .leave3 .ensures .0) (v .leave3 .ensures .1)
+    (rw none (last-ends d (ofCode (l .loop .p)) (a .wanted) (a .waiter)))
+    (rw none (n .check-known .ensures ∙ ap (λ k. cond (has (a .wanted) k) (code (joinedBy (a .waiter) k)) 8) own ∙ last-is d (ofCode (l .loop .p)) (a .wanted) (a .waiter)))
 
 pub +take+visit-spec : {M : Type 1} → statement M
 +take+visit-spec = close μ-take μ-visit (λ t. take-lts.spec (take-calls t)
@@ -718,31 +719,31 @@ pub +take+visit-spec : {M : Type 1} → statement M
     (visit-reach-of-requires t)
     (visit-stop-bits-requires t)
     (visit-loop-holds t)
-    (visit-class-of-requires t)
-    (visit-check-known-requires t)
-    (visit-known-mark-requires t)
-    (visit-sub-leave t)
-    (visit-leave-requires t)
-    (visit-same-length t)
-    (visit-returns t)
     (visit-has-class-requires t)
     (visit-possible-set-requires t)
     (visit-only-class-requires t)
     (visit-check-set-requires t)
     (visit-mark-of-requires t)
-    (visit-sub-leave-2 t)
-    (visit-leave-requires-2 t)
-    (visit-same-length-2 t)
-    (visit-returns-2 t)
+    (visit-sub-leave t)
+    (visit-leave-requires t)
+    (visit-same-length t)
+    (visit-returns t)
     (visit-pin-at-requires t)
     (visit-add-next t)
     (visit-goal-of-requires t)
     (visit-waiter-of-requires t)
     (visit-take-requires t)
     (visit-open-mark-requires t)
+    (visit-sub-leave-2 t)
+    (visit-leave-requires-2 t)
+    (visit-same-length-2 t)
+    (visit-returns-2 t)
+    (visit-loop-less t)
+    (visit-loop-again t)
+    (visit-class-of-requires t)
+    (visit-check-known-requires t)
+    (visit-known-mark-requires t)
     (visit-sub-leave-3 t)
     (visit-leave-requires-3 t)
     (visit-same-length-3 t)
     (visit-returns-3 t)
-    (visit-loop-less t)
-    (visit-loop-again t)
