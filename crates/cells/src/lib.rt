@@ -68,7 +68,7 @@ pub fn open_mark(p: u8, next: u8) -> u8
     16 + 8 * next + p
 }
 
-// A gate's byte, by its class, 8 where it is not known. Without `open_mark`: with it the compiler folds the ends of a visit into one, which costs 10 %.
+// A gate's byte, by its class, 8 where it is not known.
 pub fn mark_of(class: u8, p: u8, next: u8) -> u8
     requires { ⌜ next ≤ 13 ⌝ }
     ensures { λ r. ⌜ r ≡ markOf class p next ⌝ }
@@ -76,7 +76,7 @@ pub fn mark_of(class: u8, p: u8, next: u8) -> u8
     if class < 8 {
         known_mark(class, next)
     } else {
-        16 + 8 * next + p % 8
+        open_mark(p % 8, next)
     }
 }
 
