@@ -1,15 +1,15 @@
 -- Laws of the tie. Assumes nothing.
 use Prim.Native.Nat.{ℕ, zero, suc, _+_, _-_, _*_, _%_, _≤_, _<_}
 use native.Mathlib.Omega.{arith}
-use native.Mathlib.Nat.{add-zero, add-mul, mul-add, suc-mul, mod-add-mod, add-mod-mod, add-mod, mod-eq-of-lt}
+use native.Mathlib.Nat.{add-zero, zero-add, add-mul, mul-add, suc-mul, mod-add-mod, add-mod-mod, add-mod, mod-eq-of-lt}
 use native.Mathlib.Numerals.{add-one}
 use mathlib.Core.Path.{_≡_, refl, sym, _∙_, ap}
 use mathlib.Core.List.{List, [], _∷_}
-use lib.ListN.{length, drop}
-use lib.Seq.{drop-cons, drop-length}
+use lib.ListN.{length, getD, drop}
+use lib.Seq.{drop-cons, drop-length, ext-getD}
 use Rattle.words.specs.Words.{byteAt}
 use Rattle.tie.specs.Tie.{grown, tieFrom}
-use Rattle.tie.specs.Blocks.{sumAt, weightAt}
+use Rattle.tie.specs.Blocks.{sumAt, weightAt, columnAt, columnsFrom, columnsAt}
 
 -- one byte more of the tie
 pub tie-more : (a b : ℕ) (s : List ℕ) (i : ℕ) → i < length s
@@ -78,3 +78,43 @@ sum-end n s at k h = let e : n - k ≡ 0 = omega arith in rw e
 pub weight-end : (n : ℕ) (s : List ℕ) (at k : ℕ) → n ≤ k → weightAt (n - k) s at ≡ 0
 unfolding weightAt
 weight-end n s at k h = let e : n - k ≡ 0 = omega arith in rw e
+
+-- the columns of a block, as a list
+columns-length : (n : ℕ) (s : List ℕ) (at k : ℕ) → length (columnsFrom n s at k) ≡ n
+unfolding columnsFrom
+columns-length zero s at k = refl
+columns-length (suc n) s at k = ap suc (columns-length n s at (k + 1))
+
+columns-at : (n : ℕ) (s : List ℕ) (at k j : ℕ) → j < n → getD (columnsFrom n s at k) j 0 ≡ columnAt s at (k + j)
+unfolding columnsFrom
+columns-at zero s at k j h = absurd (omega arith)
+columns-at (suc n) s at k zero h = rw add-zero
+columns-at (suc n) s at k (suc j) h = let e : k + suc j ≡ k + 1 + j = omega arith in rw e (columns-at n s at (k + 1) j (omega arith))
+
+pub column-of : (s : List ℕ) (at j : ℕ) → j < 16 → getD (columnsAt s at) j 0 ≡ columnAt s at j
+column-of s at j h = columns-at 16 s at 0 j h ∙ ap (columnAt s at) (zero-add j)
+
+pub columns-all : (s : List ℕ) (at : ℕ) (sums : List ℕ) → length sums ≡ 16 → ((j : ℕ) → j < 16 → getD sums j 0 ≡ columnAt s at j) → sums ≡ columnsAt s at
+columns-all s at sums e all = ext-getD 0 sums _ (e ∙ sym (columns-length 16 s at 0)) (λ j h. let l : j < 16 = omega arith in all j l ∙ sym (column-of s at j l))
+
+-- Their sum: the block's bytes with weights, from column k of each row on. Column 16 of a row is column 0 of the next, so that all cancel but the first.
+unfoldable pub rowsFrom : List ℕ → (at k : ℕ) → ℕ
+rowsFrom s at k = weightAt (64 - k) s (at + k) + weightAt (48 - k) s (at + 16 + k) + weightAt (32 - k) s (at + 32 + k) + weightAt (16 - k) s (at + 48 + k)
+
+pub rows-more : (s : List ℕ) (at k : ℕ) → k < 16 → rowsFrom s at k ≡ columnAt s at k + rowsFrom s at (k + 1)
+unfolding rowsFrom columnAt
+rows-more s at k h =
+    omega (
+      arith,
+      weight-more 64 s at k (omega arith),
+      weight-more 48 s (at + 16) k (omega arith),
+      weight-more 32 s (at + 32) k (omega arith),
+      weight-more 16 s (at + 48) k (omega arith),
+    )
+
+pub rows-end : (s : List ℕ) (at : ℕ) → rowsFrom s at 0 ≡ weightAt 64 s at + rowsFrom s at 16
+unfolding rowsFrom
+rows-end s at =
+    let third : at + 16 + 16 ≡ at + 32 = omega arith in
+    let fourth : at + 32 + 16 ≡ at + 48 = omega arith in
+    rw (third, fourth, add-zero at, add-zero (at + 16), add-zero (at + 32), add-zero (at + 48)) (omega (arith, weight-end 0 s (at + 48 + 16) 0 (omega arith)))

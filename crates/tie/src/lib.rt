@@ -1,9 +1,10 @@
 // The tie, which binds a list of changes to its netlist: two running sums of the bytes, by blocks.
 ghost use mathlib.Core.Path.{_≡_};
-ghost use Prim.Native.Nat.{_+_, _*_, _%_, _≤_};
+ghost use Prim.Native.Nat.{_+_, _*_, _%_, _≤_, _<_};
 ghost use lib.ListN.{length, drop};
+ghost use Rattle.words.specs.Words.{byteAt};
 ghost use Rattle.tie.specs.Tie.{tieFrom, tieOf};
-ghost use Rattle.tie.specs.Blocks.{sumAt, weightAt};
+ghost use Rattle.tie.specs.Blocks.{sumAt, weightAt, columnAt, columnsAt};
 use std::num::wrapping_add_u32;
 
 // The sum of the 64 bytes from a place on: what they add to the first sum of the tie.
@@ -18,14 +19,46 @@ fn block_sum(s: &[u8], at: usize) -> u32
     sum
 }
 
-// Their sum with the weights 64 to 1: what they add to the second, beside 64 times the first.
+// A byte with a weight: u16 has room for four.
+fn weighted(s: &[u8], place: usize, weight: usize) -> u16
+    requires { ⌜ (place < length (now s)) × (weight ≤ 64) ⌝ }
+    ensures { λ r. ⌜ (r ≡ weight * byteAt (now (s .entry)) place) × (r ≤ 16320) ⌝ }
+{
+    weight as u16 * s[place] as u16
+}
+
+// Column k of 64 bytes in four rows of 16: its four bytes with their weights.
+fn column_at(s: &[u8], at: usize, k: usize) -> u16
+    requires { ⌜ (at + 64 ≤ length (now s)) × (k < 16) ⌝ }
+    ensures { λ r. ⌜ r ≡ columnAt (now (s .entry)) at k ⌝ }
+{
+    weighted(s, at + k, 64 - k)
+        + weighted(s, at + 16 + k, 48 - k)
+        + weighted(s, at + 32 + k, 32 - k)
+        + weighted(s, at + 48 + k, 16 - k)
+}
+
+// The 16 columns of the 64 bytes from a place on, which do not wait for each other.
+fn columns(s: &[u8], at: usize) -> [u16; 16]
+    requires { ⌜ at + 64 ≤ length (now s) ⌝ }
+    ensures { λ r. ⌜ r ≡ columnsAt (now (s .entry)) at ⌝ }
+{
+    let mut sums = [0u16; 16];
+    for k in 0..16 {
+        sums[k] = column_at(s, at, k);
+    }
+    sums
+}
+
+// The sum of the 64 bytes with the weights 64 to 1: what they add to the second, beside 64 times the first.
 fn block_weight(s: &[u8], at: usize) -> u32
     requires { ⌜ at + 64 ≤ length (now s) ⌝ }
     ensures { λ r. ⌜ r ≡ weightAt 64 (now (s .entry)) at ⌝ }
 {
+    let sums = columns(s, at);
     let mut sum: u32 = 0;
-    for k in 0..64 {
-        sum = wrapping_add_u32(sum, (64 - k) as u32 * s[at + k] as u32);
+    for k in 0..16 {
+        sum = wrapping_add_u32(sum, sums[k] as u32);
     }
     sum
 }

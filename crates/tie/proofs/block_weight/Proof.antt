@@ -1,46 +1,37 @@
--- `block_weight`: what is passed and what is left make the sum with weights. Assumes nothing.
-use Prim.Native.Nat.{_+_, _-_, _*_, _≤_}
+-- `block_weight`: the columns passed and what is left make the rows. Assumes nothing.
+use Prim.Native.Nat.{ℕ, _+_, _-_, _*_, _≤_}
 use native.Mathlib.Omega.{arith}
-use native.Mathlib.Nat.{add-zero, zero-add, mul-le-mul}
-use mathlib.Core.Path.{_≡_}
+use native.Mathlib.Nat.{zero-add}
+use mathlib.Core.Path.{_≡_, _∙_, ap}
+use mathlib.Core.List.{List}
+use lib.ListN.{getD}
+use mir.Syntax.{w16}
+use mir.Val.{Fits}
 use borrow.Author.Needs.{needs}
-use Rattle.words.specs.Words.{byteAt}
-use Rattle.tie.specs.Blocks.{weightAt}
-use Rattle.tie.proofs.Laws.{weight-more, weight-end}
+use Rattle.tie.proofs.Laws.{column-of, rowsFrom, rows-more, rows-end}
 use Rattle.tie.proofs.block_weight.Statement.{statement}
 use Rattle.tie.proofs.block_weight.Tie as tie
 
 abbrev Inv-loop : tie.InvT-loop
-Inv-loop s at sum₀ k₀ sum k = (k ≤ 64) × (sum ≤ 16320 * k) × (weightAt 64 s at ≡ sum + weightAt (64 - k) s (at + k))
+Inv-loop s at sums sum₀ k₀ sum k = (k ≤ 16) × (sum ≤ 65535 * k) × (rowsFrom s at 0 ≡ sum + rowsFrom s at k)
 
 abbrev μ-loop : tie.MeasureT-loop
-μ-loop s at sum₀ k₀ sum k = 64 - k
+μ-loop s at sums sum₀ k₀ sum k = 16 - k
 
--- a weighted byte
-small : (c : tie.After-shared-slice-known2 Inv-loop μ-loop) → let a = c .before .before in let at = a .before .before .args in
-    (64 - a .loop .k) * byteAt (at .s .now) (at .at + a .loop .k) ≤ 16320
-small c = let a = c .before .before in mul-le-mul {n₂ = 64} {m₂ = 255} (omega arith) (omega (arith, c .shared-slice-known2 .given (a .before .before .args .at + a .loop .k)))
+columns-requires : tie.Need-columns-requires Inv-loop μ-loop
+columns-requires c κs = search needs
 
 loop-holds : tie.Need-loop-holds Inv-loop μ-loop
-loop-holds c = (search needs, search needs, rw (add-zero, zero-add))
+loop-holds c = (search needs, search needs, rw zero-add)
 
-sub-wrapping-add-u32 : tie.Need-sub-wrapping-add-u32 Inv-loop μ-loop
-sub-wrapping-add-u32 c = search needs
+mul-wrapping-add-u32 : tie.Need-mul-wrapping-add-u32 Inv-loop μ-loop
+mul-wrapping-add-u32 c = search needs
+
+array-read-wrapping-add-u32 : tie.Need-array-read-wrapping-add-u32 Inv-loop μ-loop
+array-read-wrapping-add-u32 c = search needs
 
 cast-wrapping-add-u32 : tie.Need-cast-wrapping-add-u32 Inv-loop μ-loop
 cast-wrapping-add-u32 c = search needs
-
-add-wrapping-add-u32 : tie.Need-add-wrapping-add-u32 Inv-loop μ-loop
-add-wrapping-add-u32 c = search needs
-
-shared-slice-read-wrapping-add-u32 : tie.Need-shared-slice-read-wrapping-add-u32 Inv-loop μ-loop
-shared-slice-read-wrapping-add-u32 c = search needs
-
-cast-wrapping-add-u32-2 : tie.Need-cast-wrapping-add-u32-2 Inv-loop μ-loop
-cast-wrapping-add-u32-2 c = omega (arith, c .shared-slice-known2 .given (c .before .before .before .before .args .at + c .before .before .loop .k))
-
-mul-wrapping-add-u32 : tie.Need-mul-wrapping-add-u32 Inv-loop μ-loop
-mul-wrapping-add-u32 c = omega (arith, small c)
 
 wrapping-add-u32-requires : tie.Need-wrapping-add-u32-requires Inv-loop μ-loop
 wrapping-add-u32-requires c κs = search needs
@@ -53,15 +44,21 @@ loop-less c = search needs
 
 loop-again : tie.Need-loop-again Inv-loop μ-loop
 loop-again c =
-    let a = c .before .before .before in
-    let at = a .before .before .args in
-    let e = weight-more 64 (at .s .now) (at .at) (a .loop .k) (search needs) in
-    let weighted = small (c .before) in
+    let l = c .before .before in
+    let made = l .before .columns in
+    let at = l .before .before .before .args in
+    let small : Fits w16 (getD (made .result) (l .loop .k) 0) = search needs in
+    let column = ap (λ (sums : List ℕ). getD sums (l .loop .k) 0) (made .ensures) ∙ column-of (at .s .now) (at .at) (l .loop .k) (search needs) in
+    let rows = rows-more (at .s .now) (at .at) (l .loop .k) (search needs) in
     let sum = c .wrapping-add-u32 .ensures in
-    (search needs, omega arith, omega (arith, a .loop .inv .2))
+    (search needs, omega arith, omega (arith, l .loop .inv .2))
 
 returns : tie.Need-returns Inv-loop μ-loop
-returns c = let a = c .before in omega (arith, a .loop .inv .2, weight-end 64 (a .before .before .args .s .now) (a .before .before .args .at + a .loop .k) (a .loop .k) (search needs))
+returns c =
+    let l = c .before in
+    let at = l .before .before .before .args in
+    let e : l .loop .k ≡ 16 = omega arith in
+    omega (arith, rw e at (l .loop .inv .2), rows-end (at .s .now) (at .at))
 
 pub block-weight-spec : {M : Type 1} → statement M
 block-weight-spec =
@@ -69,13 +66,11 @@ block-weight-spec =
     (tie.spec
     Inv-loop
     μ-loop
+    columns-requires
     loop-holds
-    sub-wrapping-add-u32
-    cast-wrapping-add-u32
-    add-wrapping-add-u32
-    shared-slice-read-wrapping-add-u32
-    cast-wrapping-add-u32-2
     mul-wrapping-add-u32
+    array-read-wrapping-add-u32
+    cast-wrapping-add-u32
     wrapping-add-u32-requires
     add-k
     loop-less
