@@ -46,7 +46,7 @@ fn judge_in(
     requires { ⌜ SearchRoom (now netlist) (now rows) (now known) × (length (now known) ≤ length (now hot)) ⌝ }
     ensures { λ r. ⌜ Answers (methodOf analysis (now (netlist .entry)) (now (list .entry))) (now (netlist .entry)) (now (list .entry)) (now (buffer .entry)) (now (buffer .exit)) r ⌝ }
 {
-    match changes::decode(netlist, list, rows) {
+    match changes::decode(netlist, list, rows, true) {
         Listed::Refused(number, place) => Judged::Refused(number, place),
         Listed::Accepted(task) => {
             if buffer.len() < task.changes * row_width(analysis, task.shape) {

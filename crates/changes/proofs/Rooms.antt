@@ -2,6 +2,7 @@
 use Prim.Native.Nat.{ℕ, _+_, _≤_}
 use native.Mathlib.Omega.{arith}
 use mathlib.Core.Path.{_≡_, sym, subst}
+use mathlib.Core.Bool.{Bool}
 use mathlib.Core.List.{List}
 use lib.ListN.{length}
 use Rattle.rows.specs.Lent.{Room}
@@ -26,11 +27,11 @@ module _ {task : Task} (n l old bytes : List ℕ) (e : listChecked n l ≡ Accep
   in-room = let f = shaped in omega (arith, room .told (omega arith))
 
   -- what the check decodes into the lent numbers
-  pub accepts : (rows : List ℕ) → rows ≡ decoded n old → Accepts n l rows task
-  accepts rows is =
+  pub accepts : (repeated : Bool) (rows : List ℕ) → rows ≡ decoded repeated n old → Accepts repeated n l rows task
+  accepts repeated rows is =
       record {
         accepted = e;
         decoded =
-            subst (Decoded n) (sym is)
-            (decoded-rows n old (listed n l e .netlist-accepted) (omega (arith, in-room, room .rowed, shaped .outputs-high)));
+            subst (Decoded repeated n) (sym is)
+            (decoded-rows repeated n old (listed n l e .netlist-accepted) (omega (arith, in-room, room .rowed, shaped .outputs-high)));
       }

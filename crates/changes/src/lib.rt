@@ -87,11 +87,11 @@ fn check_list(list: &[u8], inputs: usize, tie: u32, next: Listed) -> Listed
 }
 
 // The check of a change list against its netlist, whose rows are kept in the lent numbers.
-pub fn decode(netlist: &[u8], list: &[u8], rows: &mut [u16]) -> Listed
+pub fn decode(netlist: &[u8], list: &[u8], rows: &mut [u16], repeated: bool) -> Listed
     ensures { λ r. ⌜ r ≡ listChecked (now (netlist .entry)) (now (list .entry)) ⌝ }
-    ensures { λ r. ⌜ now (rows .exit) ≡ decoded (now (netlist .entry)) (now (rows .entry)) ⌝ }
+    ensures { λ r. ⌜ now (rows .exit) ≡ decoded repeated (now (netlist .entry)) (now (rows .entry)) ⌝ }
 {
-    match netlist::decode(netlist, rows) {
+    match netlist::decode(netlist, rows, repeated) {
         Checked::Refused(number, place) => Listed::Refused(number, place),
         Checked::Accepted(shape) => {
             let tie = tie::tie(netlist);
@@ -111,5 +111,5 @@ pub fn check(netlist: &[u8], list: &[u8]) -> Listed
     ensures { λ r. ⌜ r ≡ listChecked (now (netlist .entry)) (now (list .entry)) ⌝ }
 {
     let mut none = [0u16; 0];
-    decode(netlist, list, &mut none)
+    decode(netlist, list, &mut none, false)
 }

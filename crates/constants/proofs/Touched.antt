@@ -52,7 +52,7 @@ known-constant k = go (isConstant k)
     go true = refl
     go false = refl
 
-module _ (n l rows : List ℕ) (task : Task) (a : Accepts n l rows task) (t : ℕ) where
+module _ (n l rows : List ℕ) (task : Task) (a : Accepts true n l rows task) (t : ℕ) where
   abbrev i : ℕ
   i = task .shape .inputs
 

@@ -5,7 +5,7 @@ use native.Mathlib.Omega.{arith}
 use native.Mathlib.Nat.{add-zero, add-suc, le-trans}
 use native.Mathlib.Decide.{decLt}
 use mathlib.Core.Path.{_≡_, refl, _∙_, ap}
-use mathlib.Core.Bool.{true}
+use mathlib.Core.Bool.{Bool, true}
 use mathlib.Core.List.{List}
 use lib.ListN.{length, getD, replicate, length-append, length-replicate, getD-replicate, List·getD-append, List·getD-eq-default}
 use lib.Seq.{getD-append-add}
@@ -73,7 +73,7 @@ module _ (n : List ℕ) (v : ℕ → Class) where
       go (no above) = omega (arith, none-taken w s (omega arith))
 
 -- where only the inputs are known
-module _ (n rows : List ℕ) (d : Decoded n rows) (v : ℕ → Class) where
+module _ {repeated : Bool} (n rows : List ℕ) (d : Decoded repeated n rows) (v : ℕ → Class) where
   abbrev known : List ℕ
   known = inputsKnown (inputsOf n) (gatesOf n) v
 

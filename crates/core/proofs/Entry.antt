@@ -2,6 +2,7 @@
 use Prim.Native.Nat.{ℕ, zero, suc, _+_, _-_, _*_, _≤_, _<_}
 use native.Mathlib.Omega.{arith}
 use mathlib.Core.Path.{_≡_, refl, sym, _∙_, ap, ap₂}
+use mathlib.Core.Bool.{Bool}
 use mathlib.Core.List.{List, _∷_, _++_}
 use borrow.Author.Tests.{le-leb, lt-leb}
 use lib.ListN.{length, take, drop, replicate}
@@ -43,7 +44,7 @@ take-replicate (suc g) zero a h = absurd (omega arith)
 take-replicate (suc g) (suc m) a h = ap (λ l. a ∷ l) (take-replicate g m a (omega arith))
 
 -- a change of an accepted list
-module _ (n l rows : List ℕ) (task : Task) (a : Accepts n l rows task) (t : ℕ) where
+module _ {repeated : Bool} (n l rows : List ℕ) (task : Task) (a : Accepts repeated n l rows task) (t : ℕ) where
   pub list-formed : ListFormed n l task
   list-formed = listed n l (a .accepted)
 

@@ -20,9 +20,12 @@ room-for signals rows long few n told =
       none-known = rw bytes;
     }
 
--- those of a small card, of a larger one and of the largest
+-- those of a small card, of larger ones and of the largest
 pub small-room : (n : List ℕ) → inputsOf n ≤ 32 → gatesOf n ≤ 32 → SearchRoom n (replicate 640 0) (replicate 64 8)
 small-room n i g = room-for 64 640 (omega arith) (omega arith) n (λ f. omega (arith, i, g))
+
+pub fewer-room : (n : List ℕ) → inputsOf n + gatesOf n ≤ 320 → SearchRoom n (replicate 2944 0) (replicate 320 8)
+fewer-room n h = room-for 320 2944 (omega arith) (omega arith) n (λ f. h)
 
 pub middle-room : (n : List ℕ) → inputsOf n + gatesOf n ≤ 512 → SearchRoom n (replicate 4672 0) (replicate 512 8)
 middle-room n h = room-for 512 4672 (omega arith) (omega arith) n (λ f. h)

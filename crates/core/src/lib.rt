@@ -57,7 +57,7 @@ fn core_in(
     requires { ⌜ SearchRoom (now netlist) (now rows) (now known) ⌝ }
     ensures { λ r. ⌜ r ≡ coreAnswer (now (netlist .entry)) (now (list .entry)) change output ⌝ }
 {
-    match changes::decode(netlist, list, rows) {
+    match changes::decode(netlist, list, rows, false) {
         Listed::Refused(number, place) => Cored::Refused(number, place),
         Listed::Accepted(task) => {
             if task.changes <= change {
@@ -77,11 +77,17 @@ fn core_in(
     }
 }
 
-// The same in room for a card of any size.
+// The same in room for a card of any size: to clear the largest takes longer than a small card's search.
 fn core_large(netlist: &[u8], list: &[u8], change: usize, output: usize) -> Cored
     ensures { λ r. ⌜ r ≡ coreAnswer (now (netlist .entry)) (now (list .entry)) change output ⌝ }
 {
-    if netlist::signals_in(netlist) <= 512 {
+    let signals = netlist::signals_in(netlist);
+    if signals <= 320 {
+        let mut rows = [0u16; 2944];
+        let mut known = [8u8; 320];
+        return core_in(netlist, list, change, output, &mut rows, &mut known);
+    }
+    if signals <= 512 {
         let mut rows = [0u16; 4672];
         let mut known = [8u8; 512];
         return core_in(netlist, list, change, output, &mut rows, &mut known);

@@ -74,7 +74,7 @@ read-known k c = rw constant-code (go (isConstant k))
     go true = read-given k c
     go false = refl
 
-module _ (n l rows : List ℕ) (task : Task) (a : Accepts n l rows task) (t : ℕ) (old : List ℕ) (room : signalsOf (task .shape) ≤ length old) where
+module _ (n l rows : List ℕ) (task : Task) (a : Accepts true n l rows task) (t : ℕ) (old : List ℕ) (room : signalsOf (task .shape) ≤ length old) where
   abbrev i : ℕ
   i = task .shape .inputs
 

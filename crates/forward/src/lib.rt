@@ -69,7 +69,7 @@ fn forward_in(
     requires { ⌜ SearchRoom (now netlist) (now rows) (now known) × (length (now known) ≤ length (now hot)) ⌝ }
     ensures { λ r. ⌜ (r ≡ forwardAnswer (now (netlist .entry)) (now (list .entry)) change (now (buffer .entry))) × (now (buffer .exit) ≡ forwardBuffer (now (netlist .entry)) (now (list .entry)) change (now (buffer .entry))) ⌝ }
 {
-    match changes::decode(netlist, list, rows) {
+    match changes::decode(netlist, list, rows, true) {
         Listed::Refused(number, place) => Forwarded::Refused(number, place),
         Listed::Accepted(task) => {
             if task.changes <= change {

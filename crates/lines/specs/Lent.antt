@@ -1,6 +1,7 @@
 -- What only the code and its proofs need: what the functions behind the lines are lent and hand on.
 use Prim.Native.Nat.{ℕ, _+_, _*_, _%_, _≤_, _<_}
 use mathlib.Core.Path.{_≡_}
+use mathlib.Core.Bool.{true}
 use mathlib.Core.List.{List, _++_}
 use lib.Dec.{eqb}
 use lib.ListN.{getD, set, drop}
@@ -35,7 +36,7 @@ textIn lines change o = textOf (lineIn lines change o)
 -- a change of an accepted card, to be simulated in so many bytes
 pub record Classifiable (list rows : List ℕ) (task : Task) (change room : ℕ) : Type 0 where
   pub netlist : List ℕ
-  pub accepts : Accepts netlist list rows task
+  pub accepts : Accepts true netlist list rows task
   pub early : change < task .changes
   pub enough : signalsOf (task .shape) ≤ room
 

@@ -2,6 +2,7 @@
 use Prim.Native.Nat.{ℕ, _+_, _*_, _%_, _≤_, _<_}
 use native.Mathlib.Omega.{arith}
 use mathlib.Core.Path.{_≡_, refl, sym, _∙_, ap, ap₂}
+use mathlib.Core.Bool.{true}
 use mathlib.Core.List.{List, _++_}
 use lib.Dec.{eqb}
 use lib.ListN.{length, getD, take, drop, replicate, length-replicate, take-append-drop, List·getD-append}
@@ -64,7 +65,7 @@ unknown-again l width t i n old filled left u e kept same =
           ∙ u .none ∙ ap (λ m. drop i (replicate m 8)) (sym long);
     }
 
-module _ (n l rows : List ℕ) (task : Task) (a : Accepts n l rows task) (change : ℕ) (early : change < task .changes) where
+module _ (n l rows : List ℕ) (task : Task) (a : Accepts true n l rows task) (change : ℕ) (early : change < task .changes) where
   list-formed : ListFormed n l task
   list-formed = entry.list-formed n l rows task a change
 

@@ -1,5 +1,6 @@
 // What the program prints, a piece at a time in a lent buffer: the first line, then the lines of as many changes as have room.
 ghost use mathlib.Core.Path.{_≡_};
+ghost use mathlib.Core.Bool.{true};
 ghost use Prim.Native.Nat.{_≤_, _<_};
 ghost use lib.ListN.{length};
 ghost use Rattle.changes.specs.Lent.{Accepts, signalsOf};
@@ -76,7 +77,7 @@ fn put_page(
     from: usize,
     buffer: &mut [u8],
 ) -> Piece
-    requires { ⌜ Accepts (now netlist) (now list) (now rows) task × (from < task .changes) ⌝ }
+    requires { ⌜ Accepts true (now netlist) (now list) (now rows) task × (from < task .changes) ⌝ }
     ensures { λ r. ⌜ Written (pieceOf (now (netlist .entry)) (now (list .entry)) (length (now (buffer .entry))) (Progress.Change from)) (now (buffer .entry)) (now (buffer .exit)) r ⌝ }
 {
     let table = tables::search();
@@ -120,7 +121,7 @@ fn put_changes(netlist: &[u8], list: &[u8], from: usize, buffer: &mut [u8]) -> P
         length: 0,
         next: Progress::Change(from),
     };
-    match changes::decode(netlist, list, &mut rows) {
+    match changes::decode(netlist, list, &mut rows, true) {
         Listed::Refused(_, _) => nothing,
         Listed::Accepted(task) => {
             if task.changes <= from {

@@ -134,7 +134,7 @@ room-next {shape} {old} r l w t filled after e same is =
     })
 
 -- CORE on a change: the inputs are known, and no gate
-module _ (n l rows : List ℕ) (task : Task) (a : Accepts n l rows task) (c : ℕ) (known : List ℕ)
+module _ (n l rows : List ℕ) (task : Task) (a : Accepts true n l rows task) (c : ℕ) (known : List ℕ)
     (is : known ≡ inputsKnown (inputsOf n) (gatesOf n) (inputClassAt l (widthOf (inputsOf n)) c)) where
   abbrev outputs : ℕ
   outputs = task .shape .outputs

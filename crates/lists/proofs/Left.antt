@@ -2,6 +2,7 @@
 use Prim.Native.Nat.{ℕ, _+_}
 use native.Mathlib.Numerals.{add-one}
 use mathlib.Core.Path.{_≡_, refl, _∙_, ap, ap₂}
+use mathlib.Core.Bool.{true}
 use mathlib.Core.List.{List, _++_}
 use lib.ListN.{drop}
 use Rattle.changes.specs.declared.Task.{Task}
@@ -20,7 +21,7 @@ module _ (step : ℕ → List ℕ → List ℕ) (lent : List ℕ) where
   unfolding after
   after-next c now exit e x = rw add-one (x ∙ ap (step c) e)
 
-module _ (n l rows : List ℕ) (task : Task) (a : Accepts n l rows task) (t : ℕ) (old now : List ℕ) (e : now ≡ filled l task t old) where
+module _ (n l rows : List ℕ) (task : Task) (a : Accepts true n l rows task) (t : ℕ) (old now : List ℕ) (e : now ≡ filled l task t old) where
   abbrev i : ℕ
   i = task .shape .inputs
 

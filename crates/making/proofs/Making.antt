@@ -18,7 +18,7 @@ use Rattle.kung.specs.Tables.{tab}
 use Rattle.kung.proofs.Listed.{getD-tab}
 use Rattle.kung.proofs.Unions.{eqb-bit}
 use Rattle.words.specs.Words.{wordAt}
-use Rattle.making.specs.Making.{pinOr, eightAt, rowPin, rowAt, ownAt, ones, putAt}
+use Rattle.making.specs.Making.{pinOr, eightAt, ownAt, ones, putAt}
 
 pub tab-length : (f : ℕ → ℕ) (i n : ℕ) → length (tab f i n) ≡ n
 unfolding tab
@@ -61,13 +61,13 @@ pub pin-past : (s : List ℕ) (at count past k : ℕ) → count ≤ k → past �
 unfolding pinOr
 pin-past s at count past k h = rw (le-ltb k count h)
 
-pub filled-rest : (s : List ℕ) (at count : ℕ) (row : List ℕ) → Filled (rowPin s at count) row count
-    → ((k : ℕ) → count ≤ k → k < 8 → getD row k 0 ≡ wordAt s (at + 2 * (count - 1))) → Filled (rowPin s at count) row 8
-filled-rest s at count row own past k h = go (ltb k count) refl
+pub filled-rest : (s : List ℕ) (at count past : ℕ) (row : List ℕ) → Filled (pinOr s at count past) row count
+    → ((k : ℕ) → count ≤ k → k < 8 → getD row k 0 ≡ past) → Filled (pinOr s at count past) row 8
+filled-rest s at count past row own rest k h = go (ltb k count) refl
   where
-    go : (b : Bool) → ltb k count ≡ b → getD row k 0 ≡ rowPin s at count k
+    go : (b : Bool) → ltb k count ≡ b → getD row k 0 ≡ pinOr s at count past k
     go true e = own k (ltb-true k count e)
-    go false e = let l = ltb-false k count e in past k l h ∙ pin-past s at count _ k l
+    go false e = let l = ltb-false k count e in rest k l h ∙ pin-past s at count past k l
 
 -- the window says which they are
 ones-at : (i : ℕ) → i < 16 → getD ones i 0 ≡ bit (ltb i 8)

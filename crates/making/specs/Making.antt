@@ -1,6 +1,6 @@
 -- How rows are made: a record's pins read as eight numbers, and numbers written where they have room.
 use Prim.Native.Nat.{ℕ, _+_, _-_, _*_}
-use mathlib.Core.Bool.{cond}
+use mathlib.Core.Bool.{Bool, cond}
 use mathlib.Core.List.{List, _++_}
 use lib.Dec.{ltb}
 use lib.ListN.{length, take, drop}
@@ -15,12 +15,15 @@ pinOr s at count past k = cond (ltb k count) (wordAt s (at + 2 * k)) past
 unfoldable pub eightAt : List ℕ → (at count past : ℕ) → List ℕ
 eightAt s at count past = tab (pinOr s at count past) 0 8
 
--- the eight pins of a row, the last repeated
-abbrev pub rowPin : List ℕ → (at count k : ℕ) → ℕ
-rowPin s at count k = pinOr s at count (wordAt s (at + 2 * (count - 1))) k
+-- the eight pins of a row, the last repeated where that is asked for, and 0 past it where not
+unfoldable pub pastOf : (repeated : Bool) → List ℕ → (at count : ℕ) → ℕ
+pastOf repeated s at count = cond repeated (wordAt s (at + 2 * (count - 1))) 0
 
-abbrev pub rowAt : List ℕ → (at count : ℕ) → List ℕ
-rowAt s at count = eightAt s at count (wordAt s (at + 2 * (count - 1)))
+abbrev pub rowPin : (repeated : Bool) → List ℕ → (at count k : ℕ) → ℕ
+rowPin repeated s at count k = pinOr s at count (pastOf repeated s at count) k
+
+abbrev pub rowAt : (repeated : Bool) → List ℕ → (at count : ℕ) → List ℕ
+rowAt repeated s at count = eightAt s at count (pastOf repeated s at count)
 
 -- the pins alone, and 0 past the last
 abbrev pub ownAt : List ℕ → (at count : ℕ) → List ℕ

@@ -6,7 +6,7 @@ ghost use Prim.Native.Nat.{_+_, _*_, _≤_};
 ghost use lib.Dec.{eqb, ltb};
 ghost use lib.ListN.{length};
 ghost use Rattle.kung.specs.Rule.{each};
-ghost use Rattle.making.specs.Making.{eightAt, ownAt, rowAt, ones, putAt};
+ghost use Rattle.making.specs.Making.{eightAt, ownAt, pastOf, rowAt, ones, putAt};
 use words::word_in;
 
 // Eight 1 and eight 0, to be lent to `own_in` and `row_in`: the eight from 8 - count on say which of a row's pins are the gate's own.
@@ -32,15 +32,6 @@ fn eight_in(s: &[u8], window: &[u16; 16], at: usize, count: usize, past: u16) ->
     row
 }
 
-// A row where eight words have room.
-pub fn row_in(s: &[u8], window: &[u16; 16], at: usize, count: usize) -> [u16; 8]
-    requires { ⌜ (now window ≡ ones) × (1 ≤ count) × (count ≤ 8) × (at + 16 ≤ length (now s)) ⌝ }
-    ensures { λ r. ⌜ r ≡ rowAt (now (s .entry)) at count ⌝ }
-{
-    let last = word_in(s, at + 2 * count - 2);
-    eight_in(s, window, at, count, last)
-}
-
 // The pins alone where eight words have room, and 0 past them.
 pub fn own_in(s: &[u8], window: &[u16; 16], at: usize, count: usize) -> [u16; 8]
     requires { ⌜ (now window ≡ ones) × (count ≤ 8) × (at + 16 ≤ length (now s)) ⌝ }
@@ -49,13 +40,38 @@ pub fn own_in(s: &[u8], window: &[u16; 16], at: usize, count: usize) -> [u16; 8]
     eight_in(s, window, at, count, 0)
 }
 
-// A row where the bytes end with its pins, or soon after.
-pub fn row_short(s: &[u8], at: usize, count: usize) -> [u16; 8]
+// What stands past a row's pins.
+fn past_of(s: &[u8], at: usize, count: usize, repeated: bool) -> u16
     requires { ⌜ (1 ≤ count) × (count ≤ 8) × (at + 2 * count ≤ length (now s)) ⌝ }
-    ensures { λ r. ⌜ r ≡ rowAt (now (s .entry)) at count ⌝ }
+    ensures { λ r. ⌜ r ≡ pastOf repeated (now (s .entry)) at count ⌝ }
 {
-    let last = word_in(s, at + 2 * count - 2);
-    let mut row = [last; 8];
+    if repeated {
+        word_in(s, at + 2 * count - 2)
+    } else {
+        0
+    }
+}
+
+// A row where eight words have room. Without repeats it is what `own_in` gives, which a check has at hand.
+pub fn row_in(s: &[u8], window: &[u16; 16], at: usize, count: usize, repeated: bool) -> [u16; 8]
+    requires { ⌜ (now window ≡ ones) × (1 ≤ count) × (count ≤ 8) × (at + 16 ≤ length (now s)) ⌝ }
+    ensures { λ r. ⌜ r ≡ rowAt repeated (now (s .entry)) at count ⌝ }
+{
+    if repeated {
+        let last = past_of(s, at, count, true);
+        eight_in(s, window, at, count, last)
+    } else {
+        own_in(s, window, at, count)
+    }
+}
+
+// A row where the bytes end with its pins, or soon after.
+pub fn row_short(s: &[u8], at: usize, count: usize, repeated: bool) -> [u16; 8]
+    requires { ⌜ (1 ≤ count) × (count ≤ 8) × (at + 2 * count ≤ length (now s)) ⌝ }
+    ensures { λ r. ⌜ r ≡ rowAt repeated (now (s .entry)) at count ⌝ }
+{
+    let past = past_of(s, at, count, repeated);
+    let mut row = [past; 8];
     for j in 0..count {
         row[j] = word_in(s, at + 2 * j);
     }

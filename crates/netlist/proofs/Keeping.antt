@@ -1,7 +1,7 @@
 -- What each answer of the check leaves in the rows. Assumes nothing.
 use Prim.Native.Nat.{ℕ, _+_, _*_, _<_}
 use mathlib.Core.Path.{_≡_, sym}
-use mathlib.Core.Bool.{false}
+use mathlib.Core.Bool.{Bool, false}
 use mathlib.Core.List.{List}
 use borrow.Author.Tests.{lt-ltb}
 use Rattle.words.specs.Words.{wordsAt}
@@ -25,10 +25,10 @@ module _ (s rows : List ℕ) (answer : Checked) where
       → putAt rows (9 * (i + g)) (wordsAt o s a) ≡ withOutputs answer s rows
   kept-read e i g o a = rw (i, g, o, a) (sym (kept-accepted e))
 
-  pub decoded-early : {number place : ℕ} → number < 5 → answer ≡ Refused number place → decodedBy answer s rows ≡ rows
+  pub decoded-early : (repeated : Bool) {number place : ℕ} → number < 5 → answer ≡ Refused number place → decodedBy repeated answer s rows ≡ rows
   unfolding decodedBy withOutputs early
-  decoded-early {number} h e = rw (e, lt-ltb number 5 h)
+  decoded-early repeated {number} h e = rw (e, lt-ltb number 5 h)
 
-  pub decoded-late : early answer ≡ false → decodedBy answer s rows ≡ withOutputs answer s (rowsFrom (gatesOf s) 0 s rows)
+  pub decoded-late : (repeated : Bool) → early answer ≡ false → decodedBy repeated answer s rows ≡ withOutputs answer s (rowsFrom repeated (gatesOf s) 0 s rows)
   unfolding decodedBy
-  decoded-late e = rw e
+  decoded-late repeated e = rw e

@@ -7,7 +7,7 @@ use lib.Dec.{ltb}
 use lib.ListN.{length}
 use Rattle.words.specs.Words.{wordsAt}
 use Rattle.rows.specs.Rows.{rowKind, rowPins, outputIn}
-use Rattle.rows.specs.Lent.{GateRow}
+use Rattle.rows.specs.Lent.{GateRow, Repeats}
 use Rattle.making.specs.Making.{rowAt, putAt}
 use Rattle.records.specs.Records.{countAt}
 use Rattle.records.specs.Reading.{wordOf}
@@ -25,16 +25,16 @@ passes (Refused number place) = false
 unfoldable pub recordFits : List ℕ → (signal at : ℕ) → Bool
 recordFits s signal at = passes (recordAt s signal at (accepted s))
 
--- a record's nine numbers: its pins, the last repeated, and its gate's word
-unfoldable pub rowOf : List ℕ → (at : ℕ) → List ℕ
-rowOf s at = rowAt s (at + 2) (countAt s at) ++ (wordOf s at ∷ [])
+-- a record's nine numbers: its pins, the last repeated where that is asked for, and its gate's word
+unfoldable pub rowOf : (repeated : Bool) → List ℕ → (at : ℕ) → List ℕ
+rowOf repeated s at = rowAt repeated s (at + 2) (countAt s at) ++ (wordOf s at ∷ [])
 
 -- of the n records from gate g's on, those before the first that is refused are kept, each at its gate's signal where it has room
-unfoldable pub rowsFrom : (n g : ℕ) → List ℕ → (rows : List ℕ) → List ℕ
-rowsFrom zero g s rows = rows
-rowsFrom (suc n) g s rows =
+unfoldable pub rowsFrom : (repeated : Bool) → (n g : ℕ) → List ℕ → (rows : List ℕ) → List ℕ
+rowsFrom repeated zero g s rows = rows
+rowsFrom repeated (suc n) g s rows =
     cond (recordFits s (inputsOf s + g) (placeOf s g))
-    (rowsFrom n (suc g) s (putAt rows (9 * (inputsOf s + g)) (rowOf s (placeOf s g))))
+    (rowsFrom repeated n (suc g) s (putAt rows (9 * (inputsOf s + g)) (rowOf repeated s (placeOf s g))))
     rows
 
 -- 1 to 4 are refused before any record is read
@@ -48,16 +48,17 @@ withOutputs (Accepted shape) s rows = putAt rows (9 * (inputsOf s + gatesOf s)) 
 withOutputs (Refused number place) s rows = rows
 
 -- the rows that the check with this answer leaves
-unfoldable pub decodedBy : Checked → List ℕ → (rows : List ℕ) → List ℕ
-decodedBy answer s rows = withOutputs answer s (cond (early answer) rows (rowsFrom (gatesOf s) 0 s rows))
+unfoldable pub decodedBy : (repeated : Bool) → Checked → List ℕ → (rows : List ℕ) → List ℕ
+decodedBy repeated answer s rows = withOutputs answer s (cond (early answer) rows (rowsFrom repeated (gatesOf s) 0 s rows))
 
-unfoldable pub decoded : List ℕ → (rows : List ℕ) → List ℕ
-decoded s rows = decodedBy (checked s) s rows
+unfoldable pub decoded : (repeated : Bool) → List ℕ → (rows : List ℕ) → List ℕ
+decoded repeated s rows = decodedBy repeated (checked s) s rows
 
 -- the rows say what the bytes say
-pub record Decoded (s rows : List ℕ) : Type 0 where
+pub record Decoded (repeated : Bool) (s rows : List ℕ) : Type 0 where
   pub long : 9 * (inputsOf s + gatesOf s) + outputsOf s ≤ length rows
   pub gate : (g : ℕ) → g < gatesOf s → GateRow rows (inputsOf s + g)
+  pub repeats : repeated ≡ true → (g : ℕ) → g < gatesOf s → Repeats rows (inputsOf s + g)
   pub kinds-are : (g : ℕ) → g < gatesOf s → rowKind rows (inputsOf s + g) ≡ gateKind s g
   pub pins-are : (g : ℕ) → g < gatesOf s → rowPins rows (inputsOf s + g) ≡ gatePins s g
   pub outputs-are : (o : ℕ) → o < outputsOf s → outputIn rows (inputsOf s + gatesOf s) o ≡ outputAt s o

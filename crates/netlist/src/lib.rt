@@ -4,7 +4,7 @@ ghost use Prim.Native.Nat.{_+_, _*_, _≤_};
 ghost use lib.ListN.{length};
 ghost use Rattle.words.specs.Words.{wordsAt};
 ghost use Rattle.making.specs.Making.{putAt};
-ghost use Rattle.netlist.specs.Netlist.{inputsOf, gatesOf, pinTotal, entriesAt};
+ghost use Rattle.netlist.specs.Netlist.{inputsOf, gatesOf, entriesAt};
 ghost use Rattle.netlist.specs.Netlist.{counts, outputs, accepted, body, bodyWithin, checked};
 ghost use Rattle.netlist.specs.Decoded.{rowsFrom, withOutputs, decodedBy, decoded};
 use records::Fit;
@@ -41,9 +41,9 @@ fn keep_words(s: &[u8], rows: &mut [u16], at: usize, count: usize, base: usize)
     }
 }
 
-// The check from the output entries on, with what was counted on the way. The outputs are kept where nothing is refused.
-fn check_outputs(s: &[u8], rows: &mut [u16], pins: usize, at: usize) -> Checked
-    requires { ⌜ (pins ≡ pinTotal (now s)) × (at ≡ entriesAt (now s)) × (at ≤ length (now s) + 11) ⌝ }
+// The check from the output entries on. The outputs are kept where nothing is refused. Before the entries stand two bytes for each gate and each pin.
+fn check_outputs(s: &[u8], rows: &mut [u16], at: usize) -> Checked
+    requires { ⌜ (at ≡ entriesAt (now s)) × (at ≤ length (now s) + 11) ⌝ }
     ensures { λ r. ⌜ r ≡ outputs (now (s .entry)) (accepted (now (s .entry))) ⌝ }
     ensures { λ r. ⌜ now (rows .exit) ≡ withOutputs (outputs (now (s .entry)) (accepted (now (s .entry)))) (now (s .entry)) (now (rows .entry)) ⌝ }
 {
@@ -68,7 +68,7 @@ fn check_outputs(s: &[u8], rows: &mut [u16], pins: usize, at: usize) -> Checked
             inputs,
             gates,
             outputs,
-            pins,
+            pins: (at - 11) / 2 - gates,
             entries: at,
         })
     }
@@ -76,33 +76,30 @@ fn check_outputs(s: &[u8], rows: &mut [u16], pins: usize, at: usize) -> Checked
 
 // The check from the records on. A record's pins are looked at together where eight have room, and one after the other where they have not or where
 // one is refused.
-fn check_records(s: &[u8], rows: &mut [u16]) -> Checked
+fn check_records(s: &[u8], rows: &mut [u16], repeated: bool) -> Checked
     requires { ⌜ (inputsOf (now s) ≤ 256) × (gatesOf (now s) ≤ 2048) ⌝ }
     ensures { λ r. ⌜ r ≡ body (now (s .entry)) ⌝ }
-    ensures { λ r. ⌜ now (rows .exit) ≡ withOutputs (body (now (s .entry))) (now (s .entry)) (rowsFrom (gatesOf (now (s .entry))) 0 (now (s .entry)) (now (rows .entry))) ⌝ }
+    ensures { λ r. ⌜ now (rows .exit) ≡ withOutputs (body (now (s .entry))) (now (s .entry)) (rowsFrom repeated (gatesOf (now (s .entry))) 0 (now (s .entry)) (now (rows .entry))) ⌝ }
 {
     let inputs = word_at(s, 5) as usize;
-    let gates = word_at(s, 7) as usize;
+    let signals = inputs + word_at(s, 7) as usize;
     let window = making::WINDOW;
     let meanings = records::meaning_table();
-    let mut gate: usize = 0;
+    let mut signal = inputs;
     let mut at: usize = 11;
-    let mut pins: usize = 0;
     'records: loop {
-        if gate == gates {
-            break 'records check_outputs(s, rows, pins, at);
+        if signal == signals {
+            break 'records check_outputs(s, rows, at);
         }
-        let signal = inputs + gate;
         match records::fit_at(s, &meanings, at) {
             Fit::Other => {}
             Fit::Pins(count, word) => {
                 let own = making::own_in(s, &window, at + 2, count);
                 if making::are_below(own, signal as u16) {
-                    let row = making::row_in(s, &window, at + 2, count);
+                    let row = making::row_in(s, &window, at + 2, count, repeated);
                     making::keep_row(rows, signal, row, word);
-                    pins += count;
                     at = at + 2 + 2 * count;
-                    gate += 1;
+                    signal += 1;
                     continue 'records;
                 }
             }
@@ -121,20 +118,19 @@ fn check_records(s: &[u8], rows: &mut [u16]) -> Checked
                     }
                     k += 1;
                 }
-                let row = making::row_short(s, at + 2, count);
+                let row = making::row_short(s, at + 2, count, repeated);
                 making::keep_row(rows, signal, row, word);
-                pins += count;
                 at = at + 2 + 2 * count;
-                gate += 1;
+                signal += 1;
             }
         }
     }
 }
 
 // The check from the counts on.
-fn check_counts(s: &[u8], rows: &mut [u16]) -> Checked
+fn check_counts(s: &[u8], rows: &mut [u16], repeated: bool) -> Checked
     ensures { λ r. ⌜ r ≡ counts (now (s .entry)) (bodyWithin 2304 (now (s .entry))) ⌝ }
-    ensures { λ r. ⌜ now (rows .exit) ≡ decodedBy (counts (now (s .entry)) (bodyWithin 2304 (now (s .entry)))) (now (s .entry)) (now (rows .entry)) ⌝ }
+    ensures { λ r. ⌜ now (rows .exit) ≡ decodedBy repeated (counts (now (s .entry)) (bodyWithin 2304 (now (s .entry)))) (now (s .entry)) (now (rows .entry)) ⌝ }
 {
     if is_outside(1, 256, word_at(s, 5) as usize) {
         return Checked::Refused(4, 5);
@@ -145,13 +141,14 @@ fn check_counts(s: &[u8], rows: &mut [u16]) -> Checked
     if is_outside(1, 64, word_at(s, 9) as usize) {
         return Checked::Refused(4, 9);
     }
-    check_records(s, rows)
+    check_records(s, rows, repeated)
 }
 
-// The check of a netlist, whose rows are kept as far as it goes and they have room.
-pub fn decode(s: &[u8], rows: &mut [u16]) -> Checked
+// The check of a netlist, whose rows are kept as far as it goes and they have room. A gate's last pin is repeated where that is asked for, which costs
+// time: the gate pass needs it, a search does not.
+pub fn decode(s: &[u8], rows: &mut [u16], repeated: bool) -> Checked
     ensures { λ r. ⌜ r ≡ checked (now (s .entry)) ⌝ }
-    ensures { λ r. ⌜ now (rows .exit) ≡ decoded (now (s .entry)) (now (rows .entry)) ⌝ }
+    ensures { λ r. ⌜ now (rows .exit) ≡ decoded repeated (now (s .entry)) (now (rows .entry)) ⌝ }
 {
     if s.len() < 11 {
         return Checked::Refused(1, s.len());
@@ -162,7 +159,7 @@ pub fn decode(s: &[u8], rows: &mut [u16]) -> Checked
     if word_at(s, 3) != 1 {
         return Checked::Refused(3, 3);
     }
-    check_counts(s, rows)
+    check_counts(s, rows, repeated)
 }
 
 // The check alone.
@@ -170,7 +167,7 @@ pub fn check(s: &[u8]) -> Checked
     ensures { λ r. ⌜ r ≡ checked (now (s .entry)) ⌝ }
 {
     let mut none = [0u16; 0];
-    decode(s, &mut none)
+    decode(s, &mut none, false)
 }
 
 // How many signals a netlist says that it has, whatever the bytes are.

@@ -1,4 +1,5 @@
--- A decoded card: nine numbers for each signal, of which a gate's are its eight pins, the last repeated, and its word; then the outputs' signals.
+-- A decoded card: nine numbers for each signal, of which a gate's are its eight pins, past the last that one again or 0, and its word; then the
+-- outputs' signals.
 use Prim.Native.Nat.{ℕ, _+_, _*_, _/_, _%_}
 use mathlib.Core.Bool.{Bool, cond}
 use mathlib.Core.List.{List}

@@ -1,7 +1,8 @@
 -- Filled with the inputs' codes, a buffer gets the classes of the change from the gate pass. Assumes nothing.
 use Prim.Native.Nat.{ℕ, _+_, _≤_, _<_}
 use native.Mathlib.Omega.{arith}
-use mathlib.Core.Path.{_≡_, sym, _∙_, ap, ap₂}
+use mathlib.Core.Path.{_≡_, refl, sym, _∙_, ap, ap₂}
+use mathlib.Core.Bool.{true}
 use mathlib.Core.List.{List, _++_, map}
 use lib.Dec.{ltb, ltb→lt}
 use lib.ListN.{length, getD, drop, length-append, length-drop, List·getD-append}
@@ -13,7 +14,7 @@ use Rattle.kung.proofs.Listed.{getD-tab}
 use Rattle.circuit.specs.Circuit.{sources, values}
 use Rattle.circuit.proofs.Laws.{sources-ext}
 use Rattle.rows.specs.Rows.{cardIn}
-use Rattle.rows.specs.Lent.{GateRow}
+use Rattle.rows.specs.Lent.{GateRow, Repeats}
 use Rattle.netlist.specs.Netlist.{inputsOf, cardOf}
 use Rattle.netlist.specs.Formed.{Formed}
 use Rattle.netlist.proofs.Accepted.{formed}
@@ -33,7 +34,7 @@ code-lt : (k : Class) → code k < 8
 unfolding everyClass
 code-lt k = ltb→lt (code k) 8 (class-at (λ k. ltb (code k) 8) tt k)
 
-module _ (n l rows : List ℕ) (task : Task) (a : Accepts n l rows task) (t : ℕ) (old : List ℕ) where
+module _ (n l rows : List ℕ) (task : Task) (a : Accepts true n l rows task) (t : ℕ) (old : List ℕ) where
   list-formed : ListFormed n l task
   list-formed = listed n l (a .accepted)
 
@@ -62,6 +63,7 @@ module _ (n l rows : List ℕ) (task : Task) (a : Accepts n l rows task) (t : �
         few = card .inputs-high;
         gates-high = card .gates-high;
         gate = λ g h. row g h;
+        repeats = λ g h. again g h;
         room = omega (arith, length-append (inputCodes l (task .width) t inputs) (drop inputs old), tab-length (codeAt l (task .width) t) 0 inputs, length-drop inputs old);
         hot-room = hot;
         coded = λ i h. rw (input-at i h) (code-lt (inputClassAt l (task .width) t i));
@@ -69,6 +71,9 @@ module _ (n l rows : List ℕ) (task : Task) (a : Accepts n l rows task) (t : �
     where
       row : (g : ℕ) → g < gates → GateRow rows (inputs + g)
       row g h = rw (card .inputs-are) (a .decoded .gate g (omega (arith, card .gates-are)))
+
+      again : (g : ℕ) → g < gates → Repeats rows (inputs + g)
+      again g h = rw (card .inputs-are) (a .decoded .repeats refl g (omega (arith, card .gates-are)))
 
   filled-sources : sourcesIn rows filled inputs gates ≡ sourcesOf n l t
   unfolding sourcesIn sourcesOf cardOf

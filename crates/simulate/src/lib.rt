@@ -25,7 +25,7 @@ fn full_in(
     requires { ⌜ Room (inputsOf (now netlist) + gatesOf (now netlist)) (now rows) (now hot) ⌝ }
     ensures { λ r. ⌜ (r ≡ fullAnswer (now (netlist .entry)) (now (list .entry)) change (now (buffer .entry))) × (now (buffer .exit) ≡ fullBuffer (now (netlist .entry)) (now (list .entry)) change (now (buffer .entry))) ⌝ }
 {
-    match changes::decode(netlist, list, rows) {
+    match changes::decode(netlist, list, rows, true) {
         Listed::Refused(number, place) => Simulated::Refused(number, place),
         Listed::Accepted(task) => {
             if task.changes <= change {

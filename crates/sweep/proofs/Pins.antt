@@ -24,7 +24,7 @@ use Rattle.kung.proofs.Gates.{gate-collect, collect-is}
 use Rattle.circuit.specs.Circuit.{Each}
 use Rattle.circuit.proofs.Laws.{each-map}
 use Rattle.rows.specs.Rows.{countIn, gateIn, invertsIn, kindIn, pinIn, wordIn, rowPins}
-use Rattle.rows.specs.Lent.{GateRow}
+use Rattle.rows.specs.Lent.{GateRow, Repeats}
 use Rattle.sweep.specs.Sweep.{pinSet, isConstantCode, anyConstant}
 
 -- one number more in a row
@@ -94,13 +94,13 @@ module _ (hot : List ℕ) where
       ∙ sym (some-next (λ x. has (getD hot x 0) c) p n))
 
   -- eight pins have the set of the gate's
-  pub set-all : (rows : List ℕ) (s : ℕ) → GateRow rows s → pinSet hot (tab (pinIn rows s) 0 8) ≡ pinSet hot (rowPins rows s)
+  pub set-all : (rows : List ℕ) (s : ℕ) → GateRow rows s → Repeats rows s → pinSet hot (tab (pinIn rows s) 0 8) ≡ pinSet hot (rowPins rows s)
   unfolding pinSet rowPins
-  set-all rows s r =
+  set-all rows s r repeats =
       let n = countIn (wordIn rows s) in
       setOf-ext _ _
       (λ c. ap (λ (k : ℕ). some (λ x. has (getD hot x 0) c) (tab (pinIn rows s) 0 k)) (omega (arith, r .count-eight))
-      ∙ some-repeated (λ x. has (getD hot x 0) c) (pinIn rows s) n (8 - n) (r .count-some) (λ k a b. r .repeats k a (omega (arith, r .count-eight))))
+      ∙ some-repeated (λ x. has (getD hot x 0) c) (pinIn rows s) n (8 - n) (r .count-some) (λ k a b. repeats k a (omega (arith, r .count-eight))))
 
 some-each : (f g : ℕ → Bool) (xs : List ℕ) → Each (λ x. f x ≡ g x) xs → some f xs ≡ some g xs
 unfolding some

@@ -8,13 +8,13 @@ ghost use Rattle.kung.specs.Class.{c0, c1};
 ghost use Rattle.kung.specs.Sets.{bit, has};
 ghost use Rattle.kung.specs.Gates.{gateTable};
 ghost use Rattle.rows.specs.Rows.{rowPins};
-ghost use Rattle.rows.specs.Lent.{GateRow};
+ghost use Rattle.rows.specs.Lent.{GateRow, Repeats};
 ghost use Rattle.sweep.specs.Sweep.{hotsOf, pinSet};
 ghost use Rattle.sweep.specs.Lent.{Passable, Passed};
 
 // The union of the sets of a gate's pins. Always eight, the last repeated: no jump depends on the number of pins.
 fn pin_set(rows: &[u16], s: usize, hot: &[u8]) -> u8
-    requires { ⌜ GateRow (now rows) s × (s ≤ length (now hot)) ⌝ }
+    requires { ⌜ GateRow (now rows) s × Repeats (now rows) s × (s ≤ length (now hot)) ⌝ }
     ensures { λ r. ⌜ r ≡ pinSet (now (hot .entry)) (rowPins (now (rows .entry)) s) ⌝ }
 {
     let mut set: u8 = 0;

@@ -27,11 +27,11 @@ tie-requires c κs = search needs
 word-at-requires : tie.Need-word-at-requires
 word-at-requires c κs = search needs
 
-cast-t15 : tie.Need-cast-t15
-cast-t15 c = search needs
+cast-t16 : tie.Need-cast-t16
+cast-t16 c = search needs
 
-add-t16 : tie.Need-add-t16
-add-t16 c = omega (arith, inputs-in (c .before .before .before))
+add-t17 : tie.Need-add-t17
+add-t17 c = omega (arith, inputs-in (c .before .before .before))
 
 check-list-requires : tie.Need-check-list-requires
 check-list-requires c κs = inputs-in (c .before .before .before)
@@ -65,8 +65,8 @@ decode-spec =
     enum-known-shape
     tie-requires
     word-at-requires
-    cast-t15
-    add-t16
+    cast-t16
+    add-t17
     check-list-requires
     same-length
     returns

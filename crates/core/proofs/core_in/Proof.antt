@@ -2,6 +2,7 @@
 use Prim.Native.Nat.{ℕ, _≤_, _<_}
 use native.Mathlib.Omega.{arith}
 use mathlib.Core.Path.{_≡_, _∙_, sym, ap, ap₂}
+use mathlib.Core.Bool.{false}
 use mathlib.Core.List.{List}
 use lib.ListN.{length, take, drop}
 use Rattle.netlist.specs.Netlist.{inputsOf, gatesOf, outputAt}
@@ -42,8 +43,8 @@ module _ (c : tie.After-task) where
   accepted : listChecked netlist list ≡ Accepted task
   accepted = sym (c .before .before .before .before .decode .ensures .0) ∙ c .task .given .1
 
-  given : Accepts netlist list rows task
-  given = accepts netlist list (begun .args .rows .now) (begun .args .known .now) accepted (begun .pre .room) rows (c .before .before .before .before .decode .ensures .1)
+  given : Accepts false netlist list rows task
+  given = accepts netlist list (begun .args .rows .now) (begun .args .known .now) accepted (begun .pre .room) false rows (c .before .before .before .before .decode .ensures .1)
 
   room : signalsOf (task .shape) ≤ length (begun .args .known .now)
   room = in-room netlist list (begun .args .rows .now) (begun .args .known .now) accepted (begun .pre .room)

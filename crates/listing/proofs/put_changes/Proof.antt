@@ -1,6 +1,7 @@
 -- `listing::put_changes` meets its contract: a page of an accepted card, or nothing. Assumes nothing.
 use native.Mathlib.Omega.{arith}
 use mathlib.Core.Path.{_≡_, sym, _∙_, ap}
+use mathlib.Core.Bool.{true}
 use lib.ListN.{replicate}
 use Rattle.changes.specs.declared.Listed.the-variants.{Accepted}
 use Rattle.changes.specs.Refusals.{listChecked}
@@ -47,7 +48,7 @@ put-page-requires c κs =
     let e = c .before .before in
     let k = e .before .before .before in
     let n = begun k .args .netlist .now in
-    (accepts n _ (replicate 20800 0) (replicate 2304 8) (accepted k) (large-room n .room) _ (k .before .before .before .decode .ensures .1), e .if1 .left)
+    (accepts n _ (replicate 20800 0) (replicate 2304 8) (accepted k) (large-room n .room) true _ (k .before .before .before .decode .ensures .1), e .if1 .left)
 
 returns-2 : tie.Need-returns-2
 unfolding printedChanges

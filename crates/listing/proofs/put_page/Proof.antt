@@ -3,6 +3,7 @@
 use Prim.Native.Nat.{ℕ, _+_, _-_, _≤_, _<_}
 use native.Mathlib.Omega.{arith}
 use mathlib.Core.Path.{_≡_, refl, sym, _∙_, ap, subst}
+use mathlib.Core.Bool.{true}
 use mathlib.Core.List.{List, _++_}
 use lib.ListN.{length, take, drop}
 use Rattle.netlist.specs.Netlist.{inputsOf, gatesOf}
@@ -60,7 +61,7 @@ module _ (k : tie.At-loop Inv-loop μ-loop) where
   abbrev signals : ℕ
   signals = signalsOf (task .shape)
 
-  abbrev given : Accepts netlist list rows task
+  abbrev given : Accepts true netlist list rows task
   given = begun .pre .0
 
   card : Formed netlist (task .shape)

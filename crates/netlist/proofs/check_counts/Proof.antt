@@ -32,7 +32,7 @@ is-outside-requires c κs = search needs
 returns : tie.Need-returns
 returns c =
     let e = counts-inputs _ _ (outside-read 1 256 (c .before .before .word-at .ensures) (c .before .is-outside .ensures) (c .if1 .taken)) in
-    (sym e, sym (decoded-early _ _ _ (omega arith) e))
+    (sym e, sym (decoded-early _ _ _ _ (omega arith) e))
 
 word-at-requires-2 : tie.Need-word-at-requires-2
 word-at-requires-2 c κs = search needs
@@ -46,7 +46,7 @@ is-outside-requires-2 c κs = search needs
 returns-2 : tie.Need-returns-2
 returns-2 c =
     let e = counts-gates _ _ (inputs-in (c .before .before .before)) (outside-read 0 2048 (c .before .before .word-at2 .ensures) (c .before .is-outside2 .ensures) (c .if2 .taken)) in
-    (sym e, sym (decoded-early _ _ _ (omega arith) e))
+    (sym e, sym (decoded-early _ _ _ _ (omega arith) e))
 
 word-at-requires-3 : tie.Need-word-at-requires-3
 word-at-requires-3 c κs = search needs
@@ -61,7 +61,7 @@ returns-3 : tie.Need-returns-3
 returns-3 c =
     let o = outside-read 1 64 (c .before .before .word-at3 .ensures) (c .before .is-outside3 .ensures) (c .if3 .taken) in
     let e = counts-outputs _ _ (inputs-in (c .before .before .before .before .before .before)) (gates-in (c .before .before .before)) o in
-    (sym e, sym (decoded-early _ _ _ (omega arith) e))
+    (sym e, sym (decoded-early _ _ _ _ (omega arith) e))
 
 check-records-requires : tie.Need-check-records-requires
 check-records-requires c κs =
@@ -81,7 +81,7 @@ returns-4 c =
     let e = counts-pass _ _ i g o ∙ body-within _ i g in
     let a = last .before .before .before .before .before .before .before .before .before .before .before .args in (
       c .before .before .check-records .ensures .0 ∙ sym e,
-      c .before .before .check-records .ensures .1 ∙ sym (ap (λ (answer : Checked). decodedBy answer (a .s .now) (a .rows .now)) e ∙ decoded-late _ _ _ (body-late _)),
+      c .before .before .check-records .ensures .1 ∙ sym (ap (λ (answer : Checked). decodedBy (a .repeated) answer (a .s .now) (a .rows .now)) e ∙ decoded-late _ _ _ _ (body-late _)),
     )
 
 pub check-counts-spec : {M : Type 1} → statement M

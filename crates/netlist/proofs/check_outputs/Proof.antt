@@ -1,5 +1,5 @@
 -- `check_outputs`: what is left of the entries is the whole of what follows the records. Assumes nothing.
-use Prim.Native.Nat.{_+_, _-_, _*_, _≤_}
+use Prim.Native.Nat.{_+_, _-_, _*_, _/_, _≤_}
 use mathlib.Core.Path.{_≡_, _∙_, sym}
 use borrow.Author.Tests.{lt-ltb, le-ltb}
 use lib.Dec.{ltb}
@@ -8,6 +8,7 @@ use Rattle.words.specs.Refusal.{refuse}
 use Rattle.words.proofs.Refusal.{stop, pass}
 use Rattle.netlist.specs.declared.Checked.the-variants.{Refused}
 use Rattle.netlist.specs.Netlist.{outputs, accepted, wordsBelow}
+use Rattle.netlist.proofs.Laws.{pins-room, pins-read}
 use Rattle.netlist.proofs.Refusals.{accepted-read, outputs-cut, outputs-start, words-stop, words-more, words-end}
 use Rattle.netlist.proofs.Keeping.{kept-refused, kept-read}
 use borrow.Author.Needs.{needs}
@@ -15,12 +16,12 @@ use Rattle.netlist.proofs.check_outputs.Statement.{statement}
 use Rattle.netlist.proofs.check_outputs.Tie as tie
 
 abbrev Inv-loop : tie.InvT-loop
-Inv-loop s rows pins at inputs gates count end k₀ k =
+Inv-loop s rows at inputs gates count end k₀ k =
     (k ≤ count)
     × (outputs s (accepted s) ≡ wordsBelow (count - k) s (at + 2 * k) (inputs + gates) 9 (refuse Refused (ltb (at + 2 * count) (length s)) 10 (at + 2 * count) (accepted s)))
 
 abbrev μ-loop : tie.MeasureT-loop
-μ-loop s rows pins at inputs gates count end k₀ k = count - k
+μ-loop s rows at inputs gates count end k₀ k = count - k
 
 word-at-requires : tie.Need-word-at-requires Inv-loop μ-loop
 word-at-requires c κs = search needs
@@ -49,7 +50,7 @@ add-end c = search needs
 returns : tie.Need-returns Inv-loop μ-loop
 returns c =
     let start = c .before .before .before .before .before .before in
-    let e = outputs-cut _ _ _ _ (c .before .word-at3 .ensures) (start .pre .1) (c .if1 .taken) in
+    let e = outputs-cut _ _ _ _ (c .before .word-at3 .ensures) (start .pre .0) (c .if1 .taken) in
     (sym e, sym (kept-refused _ _ _ e))
 
 loop-holds : tie.Need-loop-holds Inv-loop μ-loop
@@ -57,7 +58,7 @@ loop-holds c =
     let start = c .before .before .before .before .before .before in
     let inputs = c .before .before .before .word-at .ensures in
     let gates = c .before .before .word-at2 .ensures in
-    (search needs, outputs-start _ _ _ _ (c .before .word-at3 .ensures) (start .pre .1) _ _ inputs gates (c .if1 .left))
+    (search needs, outputs-start _ _ _ _ (c .before .word-at3 .ensures) (start .pre .0) _ _ inputs gates (c .if1 .left))
 
 mul-place : tie.Need-mul-place Inv-loop μ-loop
 mul-place c = search needs
@@ -97,6 +98,21 @@ mul-keep-words c = search needs
 keep-words-requires : tie.Need-keep-words-requires Inv-loop μ-loop
 keep-words-requires c κs = search needs
 
+-- before the entries stand the head and two bytes for each gate and each pin
+before-entries : (c : tie.After-slice-known2 Inv-loop μ-loop) → let read = c .before .before .before .before .before .before .before .before in
+    let at = read .before .before .before .before .before .args .at in
+    (11 ≤ at) × (read .before .word-at2 .result ≤ (at - 11) / 2)
+before-entries c =
+    let read = c .before .before .before .before .before .before .before .before in
+    let start = read .before .before .before .before .before in
+    pins-room (start .args .s .now) (read .before .word-at2 .ensures) (start .pre .0)
+
+sub-t21 : tie.Need-sub-t21 Inv-loop μ-loop
+sub-t21 c = before-entries c .0
+
+sub-t23 : tie.Need-sub-t23 Inv-loop μ-loop
+sub-t23 c = before-entries c .1
+
 returns-3 : tie.Need-returns-3 Inv-loop μ-loop
 returns-3 c =
     let e = c .before .before .loop .inv .1 ∙ words-end _ _ _ _ _ _ _ (c .before .loop-test .left) ∙ stop _ _ _ _ _ (lt-ltb _ _ (c .if3 .taken)) in
@@ -114,8 +130,8 @@ returns-4 c =
     let i = read .before .before .word-at .ensures in
     let g = read .before .word-at2 .ensures in
     let o = read .word-at3 .ensures in (
-      accepted-read _ i g o (start .pre .0) (start .pre .1) ∙ sym e,
-      c .before .before .keep-words .ensures ∙ kept-read _ _ _ e i g o (start .pre .1),
+      accepted-read _ i g o (pins-read _ g (start .pre .0)) (start .pre .0) ∙ sym e,
+      c .before .before .keep-words .ensures ∙ kept-read _ _ _ e i g o (start .pre .0),
     )
 
 pub check-outputs-spec : {M : Type 1} → statement M
@@ -146,6 +162,8 @@ check-outputs-spec =
     add-keep-words
     mul-keep-words
     keep-words-requires
+    sub-t21
+    sub-t23
     returns-3
     same-length
     returns-4)

@@ -29,17 +29,18 @@ use Rattle.netlist.proofs.check_records.Statement.{statement}
 use Rattle.netlist.proofs.check_records.Tie as tie
 
 abbrev Inv-pins : tie.InvT-pins
-Inv-pins s rows inputs gates window meanings gate at pins signal count word k₀ k =
+Inv-pins s rows repeated inputs signals window meanings signal at count word k₀ k =
     (next : Checked) → recordAt s signal at next ≡ wordsBelow (count - k) s (at + 2 + 2 * k) signal 8 next
 
 abbrev μ-pins : tie.MeasureT-pins
-μ-pins s rows inputs gates window meanings gate at pins signal count word k₀ k = count - k
+μ-pins s rows repeated inputs signals window meanings signal at count word k₀ k = count - k
 
 abbrev Inv-records : tie.InvT-records
-Inv-records s rows₀ inputs gates window meanings gate₀ at₀ pins₀ rows gate at pins = Reached s rows₀ gates gate at pins rows
+Inv-records s rows₀ repeated inputs signals window meanings signal₀ at₀ rows signal at =
+    (inputs ≤ signal) × Reached repeated s rows₀ (signals - inputs) (signal - inputs) at rows
 
 abbrev μ-records : tie.MeasureT-records
-μ-records s rows₀ inputs gates window meanings gate₀ at₀ pins₀ rows gate at pins = gates - gate
+μ-records s rows₀ repeated inputs signals window meanings signal₀ at₀ rows signal at = signals - signal
 
 -- the bytes and the rows that were lent, and the counts that were read
 abbrev start : tie.At-records Inv-pins μ-pins Inv-records μ-records → tie.Start Inv-pins μ-pins Inv-records μ-records
@@ -57,27 +58,47 @@ inputs a = a .before .before .before .word-at .result
 inputs-are : (a : tie.At-records Inv-pins μ-pins Inv-records μ-records) → inputs a ≡ inputsOf (bytes a)
 inputs-are a = a .before .before .before .word-at .ensures
 
+abbrev signals : tie.At-records Inv-pins μ-pins Inv-records μ-records → ℕ
+signals a = inputs a + a .before .before .word-at2 .result
+
 abbrev gates : tie.At-records Inv-pins μ-pins Inv-records μ-records → ℕ
-gates a = a .before .before .word-at2 .result
+gates a = signals a - inputs a
 
 gates-are : (a : tie.At-records Inv-pins μ-pins Inv-records μ-records) → gates a ≡ gatesOf (bytes a)
-gates-are a = a .before .before .word-at2 .ensures
+gates-are a = omega (arith, a .before .before .word-at2 .ensures)
 
 abbrev signal : tie.At-records Inv-pins μ-pins Inv-records μ-records → ℕ
-signal a = inputs a + a .records .gate
+signal a = a .records .signal
 
-more : (c : tie.Else1 Inv-pins μ-pins Inv-records μ-records) → c .before .records .gate < gates (c .before)
-more c = lt-of-le-ne (c .before .records .inv .gate-high) (c .if1 .left)
+-- the gate that is reached
+abbrev gate : tie.At-records Inv-pins μ-pins Inv-records μ-records → ℕ
+gate a = signal a - inputs a
+
+signal-is : (a : tie.At-records Inv-pins μ-pins Inv-records μ-records) → signal a ≡ inputsOf (bytes a) + gate a
+signal-is a = omega (arith, a .records .inv .0, inputs-are a)
+
+long : (a : tie.At-records Inv-pins μ-pins Inv-records μ-records) → length (bytes a) ≤ 18446744073709551615
+long a = search needs
+
+more : (c : tie.Else1 Inv-pins μ-pins Inv-records μ-records) → gate (c .before) < gates (c .before)
+more c =
+    let a = c .before in
+    let low : signal a ≤ signals a = omega (arith, a .records .inv .0, a .records .inv .1 .gate-high) in
+    omega (arith, lt-of-le-ne low (c .if1 .left), a .records .inv .0)
+
+-- the next gate is that of the next signal
+next-gate : (a : tie.At-records Inv-pins μ-pins Inv-records μ-records) → gate a + 1 ≡ signal a + 1 - inputs a
+next-gate a = omega (arith, a .records .inv .0)
 
 -- where the record is refused, whatever follows it, the check ends with that
 refused : (c : tie.Else1 Inv-pins μ-pins Inv-records μ-records) (number place : ℕ) → let a = c .before in
     ((next : Checked) → recordAt (bytes a) (signal a) (a .records .at) next ≡ Refused number place)
-    → (Refused number place ≡ body (bytes a)) × (a .records .rows ≡ withOutputs (body (bytes a)) (bytes a) (rowsFrom (gatesOf (bytes a)) 0 (bytes a) (old a)))
+    → (Refused number place ≡ body (bytes a)) × (a .records .rows ≡ withOutputs (body (bytes a)) (bytes a) (rowsFrom (start a .args .repeated) (gatesOf (bytes a)) 0 (bytes a) (old a)))
 refused c number place r =
     let a = c .before in
-    let e = reached-own _ _ _ _ _ _ _ (a .records .inv) (more c) (inputs a) (inputs-are a) ∙ r _ in (
+    let e = reached-own _ _ _ _ _ _ _ (a .records .inv .1) (more c) (signal a) (signal-is a) ∙ r _ in (
       sym e,
-      sym (kept-refused (bytes a) _ _ e ∙ reached-unfit _ _ _ _ _ _ _ (a .records .inv) (more c) (inputs a) (inputs-are a) (fits-not _ _ _ r)),
+      sym (kept-refused (bytes a) _ _ e ∙ reached-unfit _ _ _ _ _ _ _ (a .records .inv .1) (more c) (signal a) (signal-is a) (fits-not _ _ _ r)),
     )
 
 word-at-requires : tie.Need-word-at-requires Inv-pins μ-pins Inv-records μ-records
@@ -89,26 +110,29 @@ cast-inputs c = search needs
 word-at-requires-2 : tie.Need-word-at-requires-2 Inv-pins μ-pins Inv-records μ-records
 word-at-requires-2 c κs = search needs
 
-cast-gates : tie.Need-cast-gates Inv-pins μ-pins Inv-records μ-records
-cast-gates c = search needs
+cast-signals : tie.Need-cast-signals Inv-pins μ-pins Inv-records μ-records
+cast-signals c = search needs
+
+add-signals : tie.Need-add-signals Inv-pins μ-pins Inv-records μ-records
+add-signals c = search needs
 
 meaning-table-requires : tie.Need-meaning-table-requires Inv-pins μ-pins Inv-records μ-records
 meaning-table-requires c κs = search needs
 
 records-holds : tie.Need-records-holds Inv-pins μ-pins Inv-records μ-records
-records-holds c = reached-first _ _ _ (c .before .word-at2 .ensures)
+records-holds c =
+    let i = c .before .before .word-at .result in
+    let none : i - i ≡ 0 = omega arith in
+    (search needs, rw none (reached-first _ _ _ _ (omega (arith, c .before .word-at2 .ensures))))
 
 check-outputs-requires : tie.Need-check-outputs-requires Inv-pins μ-pins Inv-records μ-records
 check-outputs-requires c κs =
     let a = c .before .before in
-    let l = reached-last _ _ _ _ _ _ _ (a .records .inv) (c .before .if1 .taken) (gates-are a) in
-    (l .0, l .1, a .records .inv .place-high)
-
-add-signal : tie.Need-add-signal Inv-pins μ-pins Inv-records μ-records
-add-signal c = search needs
+    let l = reached-last _ _ _ _ _ _ _ (a .records .inv .1) (ap (λ n. n - inputs a) (c .before .if1 .taken)) (gates-are a) in
+    (l .0, a .records .inv .1 .place-high)
 
 fit-at-requires : tie.Need-fit-at-requires Inv-pins μ-pins Inv-records μ-records
-fit-at-requires c κs = (c .before .before .before .meaning-table .ensures, c .before .before .records .inv .place-high)
+fit-at-requires c κs = (c .before .before .before .meaning-table .ensures, c .before .before .records .inv .1 .place-high)
 
 enum-told : tie.Need-enum-told Inv-pins μ-pins Inv-records μ-records
 enum-told c = search needs
@@ -160,20 +184,17 @@ keep-row-requires c κs = search needs
 abbrev kept-fit : tie.After-slice-known3 Inv-pins μ-pins Inv-records μ-records → tie.After-known-told Inv-pins μ-pins Inv-records μ-records
 kept-fit c = c .before .before .before .before .before .before .before .before .before .before
 
-add-pins : tie.Need-add-pins Inv-pins μ-pins Inv-records μ-records
-add-pins c = omega (arith, told₁ (kept-fit c), at-fit (kept-fit c) .before .records .inv .pins-high)
-
 add-at : tie.Need-add-at Inv-pins μ-pins Inv-records μ-records
-add-at c = search needs
+add-at c = let t = kept-fit c in omega (arith, told₁ t, long (at-fit t .before))
 
 mul-at : tie.Need-mul-at Inv-pins μ-pins Inv-records μ-records
 mul-at c = omega (arith, told₁ (kept-fit c))
 
 add-at-2 : tie.Need-add-at-2 Inv-pins μ-pins Inv-records μ-records
-add-at-2 c = omega (arith, told₁ (kept-fit c))
+add-at-2 c = let t = kept-fit c in omega (arith, told₁ t, long (at-fit t .before))
 
-add-gate : tie.Need-add-gate Inv-pins μ-pins Inv-records μ-records
-add-gate c = search needs
+add-signal : tie.Need-add-signal Inv-pins μ-pins Inv-records μ-records
+add-signal c = search needs
 
 records-less : tie.Need-records-less Inv-pins μ-pins Inv-records μ-records
 records-less c = search needs
@@ -185,15 +206,18 @@ records-again c =
     let a = e .before in
     let row = c .before .before .before .before in
     let below = row .before .before .before in
-    let nine = row-read (bytes a) (a .records .at) (told₁ t .count-is) (told₁ t .word-is) (row .row-in .ensures) in
-    let passes = sym (below .are-below .ensures ∙ ap (each (λ x. ltb x (signal a))) (below .before .own-in .ensures)) ∙ row .before .before .if2 .taken in
-    reached-next _ _ _ _ _ _ _ (a .records .inv) (more e) (inputs a) (inputs-are a) (counted₁ t) (told₁ t .count-is) (told₁ t .room)
-    (λ next. record-pins _ _ _ _ (fit t .1) ∙ all-passed _ _ _ _ (told₁ t .count-eight) passes 8 next)
-    _
-    (c .before .before .keep-row .ensures ∙ ap (putAt (a .records .rows) (9 * signal a)) nine)
+    let nine = row-read _ (bytes a) (a .records .at) (told₁ t .count-is) (told₁ t .word-is) (row .row-in .ensures) in
+    let passes = sym (below .are-below .ensures ∙ ap (each (λ x. ltb x (signal a))) (below .before .own-in .ensures)) ∙ row .before .before .if2 .taken in (
+      omega (arith, a .records .inv .0),
+      rw (← next-gate a)
+          (reached-next _ _ _ _ _ _ _ (a .records .inv .1) (more e) (signal a) (signal-is a) (counted₁ t) (told₁ t .count-is) (told₁ t .room)
+          (λ next. record-pins _ _ _ _ (fit t .1) ∙ all-passed _ _ _ _ (told₁ t .count-eight) passes 8 next)
+          _
+          (c .before .before .keep-row .ensures ∙ ap (putAt (a .records .rows) (9 * signal a)) nine)),
+    )
 
 head-at-requires : tie.Need-head-at-requires Inv-pins μ-pins Inv-records μ-records
-head-at-requires c κs = (c .before .before .before .before .before .before .meaning-table .ensures, c .before .before .before .before .before .records .inv .place-high)
+head-at-requires c κs = (c .before .before .before .before .before .before .meaning-table .ensures, c .before .before .before .before .before .records .inv .1 .place-high)
 
 enum-known-number : tie.Need-enum-known-number Inv-pins μ-pins Inv-records μ-records
 enum-known-number c = search needs
@@ -257,20 +281,17 @@ keep-row-requires-2 c κs = search needs
 abbrev kept-told : tie.After-slice-known4 Inv-pins μ-pins Inv-records μ-records → tie.After-known-told3 Inv-pins μ-pins Inv-records μ-records
 kept-told c = c .before .before .before .before .before .before .before
 
-add-pins-2 : tie.Need-add-pins-2 Inv-pins μ-pins Inv-records μ-records
-add-pins-2 c = omega (arith, told (kept-told c), at-record (kept-told c) .before .records .inv .pins-high)
-
 add-at-3 : tie.Need-add-at-3 Inv-pins μ-pins Inv-records μ-records
 add-at-3 c = search needs
 
 mul-at-2 : tie.Need-mul-at-2 Inv-pins μ-pins Inv-records μ-records
-mul-at-2 c = omega (arith, told (kept-told c), at-record (kept-told c) .before .records .inv .place-high)
+mul-at-2 c = omega (arith, told (kept-told c), at-record (kept-told c) .before .records .inv .1 .place-high)
 
 add-at-4 : tie.Need-add-at-4 Inv-pins μ-pins Inv-records μ-records
-add-at-4 c = omega (arith, told (kept-told c), at-record (kept-told c) .before .records .inv .place-high)
+add-at-4 c = omega (arith, told (kept-told c), at-record (kept-told c) .before .records .inv .1 .place-high)
 
-add-gate-2 : tie.Need-add-gate-2 Inv-pins μ-pins Inv-records μ-records
-add-gate-2 c = search needs
+add-signal-2 : tie.Need-add-signal-2 Inv-pins μ-pins Inv-records μ-records
+add-signal-2 c = search needs
 
 records-less-2 : tie.Need-records-less-2 Inv-pins μ-pins Inv-records μ-records
 records-less-2 c = search needs
@@ -281,26 +302,29 @@ records-again-2 c =
     let t = kept-told c in
     let e = at-record t in
     let a = e .before in
-    let row = row-read (bytes a) (a .records .at) (told t .count-is) (told t .word-is) (c .before .before .before .before .row-short .ensures) in
-    reached-next _ _ _ _ _ _ _ (a .records .inv) (more e) (inputs a) (inputs-are a) (counted t) (told t .count-is) (told t .room)
-    (λ next. l .before .pins .inv next ∙ words-end _ _ _ _ _ _ _ (l .pins-test .taken))
-    _
-    (c .before .before .keep-row2 .ensures ∙ ap (putAt (a .records .rows) (9 * signal a)) row)
+    let row = row-read _ (bytes a) (a .records .at) (told t .count-is) (told t .word-is) (c .before .before .before .before .row-short .ensures) in (
+      omega (arith, a .records .inv .0),
+      rw (← next-gate a)
+          (reached-next _ _ _ _ _ _ _ (a .records .inv .1) (more e) (signal a) (signal-is a) (counted t) (told t .count-is) (told t .room)
+          (λ next. l .before .pins .inv next ∙ words-end _ _ _ _ _ _ _ (l .pins-test .taken))
+          _
+          (c .before .before .keep-row2 .ensures ∙ ap (putAt (a .records .rows) (9 * signal a)) row)),
+    )
 
 same-length : tie.Need-same-length Inv-pins μ-pins Inv-records μ-records
-same-length c = let a = c .before .before .before .before .before in c .before .before .check-outputs .kept .1 .0 ∙ a .records .inv .same-length
+same-length c = let a = c .before .before .before .before .before in c .before .before .check-outputs .kept .1 .0 ∙ a .records .inv .1 .same-length
 
 returns : tie.Need-returns Inv-pins μ-pins Inv-records μ-records
 returns c =
     let o = c .before .before in
     let a = o .before .before .before in
-    let l = reached-last _ _ _ _ _ _ _ (a .records .inv) (o .before .before .if1 .taken) (gates-are a) in (
-      o .check-outputs .ensures .0 ∙ sym (l .2),
-      o .check-outputs .ensures .1 ∙ ap₂ (λ (answer : Checked) (rows : List ℕ). withOutputs answer (bytes a) rows) (sym (l .2)) (sym (l .3)),
+    let l = reached-last _ _ _ _ _ _ _ (a .records .inv .1) (ap (λ n. n - inputs a) (o .before .before .if1 .taken)) (gates-are a) in (
+      o .check-outputs .ensures .0 ∙ sym (l .1),
+      o .check-outputs .ensures .1 ∙ ap₂ (λ (answer : Checked) (rows : List ℕ). withOutputs answer (bytes a) rows) (sym (l .1)) (sym (l .2)),
     )
 
 same-length-2 : tie.Need-same-length-2 Inv-pins μ-pins Inv-records μ-records
-same-length-2 c = c .before .before .before .before .before .before .before .before .before .records .inv .same-length
+same-length-2 c = c .before .before .before .before .before .before .before .before .before .records .inv .1 .same-length
 
 returns-2 : tie.Need-returns-2 Inv-pins μ-pins Inv-records μ-records
 returns-2 c =
@@ -308,7 +332,7 @@ returns-2 c =
     refused (h .before .before .before .before .before) _ _ (λ next. record-refused _ _ _ next (sym (h .head-at .ensures) ∙ c .before .number .given .1))
 
 same-length-3 : tie.Need-same-length-3 Inv-pins μ-pins Inv-records μ-records
-same-length-3 c = c .before .before .before .before .before .before .before .before .before .before .before .before .before .records .inv .same-length
+same-length-3 c = c .before .before .before .before .before .before .before .before .before .before .before .before .before .records .inv .1 .same-length
 
 returns-3 : tie.Need-returns-3 Inv-pins μ-pins Inv-records μ-records
 returns-3 c =
@@ -327,11 +351,11 @@ check-records-spec =
     word-at-requires
     cast-inputs
     word-at-requires-2
-    cast-gates
+    cast-signals
+    add-signals
     meaning-table-requires
     records-holds
     check-outputs-requires
-    add-signal
     fit-at-requires
     enum-told
     enum-known-count
@@ -342,11 +366,10 @@ check-records-spec =
     add-row-in
     row-in-requires
     keep-row-requires
-    add-pins
     add-at
     mul-at
     add-at-2
-    add-gate
+    add-signal
     records-less
     records-again
     head-at-requires
@@ -364,11 +387,10 @@ check-records-spec =
     add-row-short
     row-short-requires
     keep-row-requires-2
-    add-pins-2
     add-at-3
     mul-at-2
     add-at-4
-    add-gate-2
+    add-signal-2
     records-less-2
     records-again-2
     same-length

@@ -20,7 +20,7 @@ returns : tie.Need-returns
 unfolding checked checkedWithin decoded
 returns c =
     let e = opening-short _ _ _ (c .if1 .taken) in
-    (sym e, sym (decoded-early _ _ _ (omega arith) e))
+    (sym e, sym (decoded-early _ _ _ _ (omega arith) e))
 
 is-marked-requires : tie.Need-is-marked-requires
 is-marked-requires c κs = search needs
@@ -29,7 +29,7 @@ returns-2 : tie.Need-returns-2
 unfolding checked checkedWithin decoded
 returns-2 c =
     let e = opening-mark _ _ _ (c .before .before .if1 .left) (sym (c .before .is-marked .ensures) ∙ not-true _ (c .if2 .taken)) in
-    (sym e, sym (decoded-early _ _ _ (omega arith) e))
+    (sym e, sym (decoded-early _ _ _ _ (omega arith) e))
 
 word-at-requires : tie.Need-word-at-requires
 word-at-requires c κs = search needs
@@ -39,7 +39,7 @@ unfolding checked checkedWithin decoded
 returns-3 c =
     let long = c .before .before .before .before .if1 .left in
     let e = opening-version _ _ _ long (marked-in (c .before .before)) (λ e. c .if3 .taken (c .before .word-at .ensures ∙ e)) in
-    (sym e, sym (decoded-early _ _ _ (omega arith) e))
+    (sym e, sym (decoded-early _ _ _ _ (omega arith) e))
 
 check-counts-requires : tie.Need-check-counts-requires
 check-counts-requires c κs = search needs
@@ -54,7 +54,7 @@ returns-4 c =
     let e = opening-pass _ _ _ (last .before .before .before .before .if1 .left) (marked-in (last .before .before)) (sym (last .before .word-at .ensures) ∙ last .if3 .left) in
     let a = last .before .before .before .before .before .before .before .args in (
       c .before .before .check-counts .ensures .0 ∙ sym e,
-      c .before .before .check-counts .ensures .1 ∙ ap (λ (answer : Checked). decodedBy answer (a .s .now) (a .rows .now)) (sym e),
+      c .before .before .check-counts .ensures .1 ∙ ap (λ (answer : Checked). decodedBy (a .repeated) answer (a .s .now) (a .rows .now)) (sym e),
     )
 
 pub decode-spec : {M : Type 1} → statement M

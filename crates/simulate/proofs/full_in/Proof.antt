@@ -1,6 +1,7 @@
 -- `simulate::full_in` meets its contract, case by case. Assumes nothing.
 use native.Mathlib.Omega.{arith}
 use mathlib.Core.Path.{_≡_, _∙_, sym}
+use mathlib.Core.Bool.{true}
 use Rattle.netlist.proofs.Accepted.{formed}
 use Rattle.changes.specs.declared.Listed.the-variants.{Accepted}
 use Rattle.changes.specs.Lent.{Accepts}
@@ -21,8 +22,8 @@ accepted : (c : tie.After-task) → listChecked (begun c .args .netlist .now) (b
 accepted c = sym (c .before .before .before .before .decode .ensures .0) ∙ c .task .given .1
 
 of : (c : tie.After-task) → let d = c .before .before .before .before in
-    Accepts (begun c .args .netlist .now) (begun c .args .list .now) (d .decode .last .1 .1 .0) (c .task .given .0 .0)
-of c = accepts _ _ _ _ (accepted c) (begun c .pre) _ (c .before .before .before .before .decode .ensures .1)
+    Accepts true (begun c .args .netlist .now) (begun c .args .list .now) (d .decode .last .1 .1 .0) (c .task .given .0 .0)
+of c = accepts _ _ _ _ (accepted c) (begun c .pre) true _ (c .before .before .before .before .decode .ensures .1)
 
 decode-requires : tie.Need-decode-requires
 decode-requires c κs = search needs

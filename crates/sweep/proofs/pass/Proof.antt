@@ -77,7 +77,7 @@ add-s c = search needs
 pin-set-requires : tie.Need-pin-set-requires Inv-loop μ-loop
 pin-set-requires c κs =
     let s = c .before .before .before .before .before .before .before .before .before .before .before in
-    (s .pre .1 .gate (c .before .before .loop .gate) (c .before .loop-test .taken), omega (arith, kept-hot (c .before .before), s .pre .1 .hot-room))
+    (s .pre .1 .gate (c .before .before .loop .gate) (c .before .loop-test .taken), s .pre .1 .repeats (c .before .before .loop .gate) (c .before .loop-test .taken), omega (arith, kept-hot (c .before .before), s .pre .1 .hot-room))
 
 word-of-requires : tie.Need-word-of-requires Inv-loop μ-loop
 word-of-requires c κs =

@@ -53,7 +53,7 @@ returns : tie.Need-returns Inv-loop μ-loop
 returns c =
     let s = c .before .before .before .before in
     let e : c .before .loop .k ≡ 8 = omega arith in
-    c .before .loop .inv .1 ∙ rw e (set-all (s .args .hot .now) (s .args .rows .now) (s .args .s) (s .pre .0))
+    c .before .loop .inv .1 ∙ rw e (set-all (s .args .hot .now) (s .args .rows .now) (s .args .s) (s .pre .0) (s .pre .1))
 
 pub pin-set-spec : {M : Type 1} → statement M
 pin-set-spec =
