@@ -91,7 +91,7 @@ pub fn leave(cells: &mut [u8], tally: &mut [u16; 2], s: usize, byte: u8, taken: 
 }
 
 // Check (c): the one result that the waiting gate gets of any class of the set, or 8.
-fn same_result_of(table: &[u8; 4876], waiter: u8, set: u8) -> u8
+fn same_result_of(table: &[u8; 4888], waiter: u8, set: u8) -> u8
     requires { ⌜ now table ≡ searchTable ⌝ }
     ensures { λ r. ⌜ r ≡ codeOr (sameResult (waitingOf waiter) set) ⌝ }
 {
@@ -103,7 +103,7 @@ fn same_result_of(table: &[u8; 4876], waiter: u8, set: u8) -> u8
 }
 
 // The checks (a), (b) and (c) of a possible set, in order; `class` is its only one, or 8.
-pub fn check_set(table: &[u8; 4876], set: u8, class: u8, wanted: u8, waiter: u8) -> u8
+pub fn check_set(table: &[u8; 4888], set: u8, class: u8, wanted: u8, waiter: u8) -> u8
     requires { ⌜ (now table ≡ searchTable) × (waiter < 17) × (class ≡ codeOr (only set)) ⌝ }
     ensures { λ r. ⌜ r ≡ checkOf (waitingOf waiter) (checks set wanted (waitingOf waiter)) ⌝ }
 {
@@ -117,7 +117,7 @@ pub fn check_set(table: &[u8; 4876], set: u8, class: u8, wanted: u8, waiter: u8)
 }
 
 // Of a gate whose class is known (a) and (b) are left.
-pub fn check_known(table: &[u8; 4876], class: u8, wanted: u8, waiter: u8) -> u8
+pub fn check_known(table: &[u8; 4888], class: u8, wanted: u8, waiter: u8) -> u8
     requires { ⌜ (now table ≡ searchTable) × (waiter < 17) ⌝ }
     ensures { λ r. ⌜ r ≡ cond (has wanted (ofCode class)) (code (joinedBy waiter (ofCode class))) 8 ⌝ }
 {

@@ -29,14 +29,15 @@ endsWith w g p = let m = possible (opAt g) (eqb (g / 2) 1) p true in hasOne m ||
 unfoldable pub stopSet : (waiter gate reach : ℕ) → ℕ
 stopSet w g reach = setOf (λ p. not (has reach p) || endsWith w g p)
 
--- 136 joins (17 waiting gates, eight classes), 68 stop bytes (17 waiting gates, four gates), 576 wanted sets
+-- 136 joins (17 waiting gates, eight classes), 80 stop bytes (20 waiting gates, of which those above 16 are never asked for, four gates), 576 wanted
+-- sets: 4,888 entries with the images, which lie in a call's frame so that no store of 16 crosses a cache line.
 unfoldable pub lookupRule : ℕ → ℕ
 lookupRule i =
     cond (ltb i 136) (code (joinedBy (i / 8) (ofCode i)))
-    (cond (ltb i 204) (setOf (endsWith ((i - 136) / 4) ((i - 136) % 4))) (wantedRule (i - 204)))
+    (cond (ltb i 216) (setOf (endsWith ((i - 136) / 4) ((i - 136) % 4))) (wantedRule (i - 216)))
 
 unfoldable pub lookupTable : List ℕ
-lookupTable = tab lookupRule 0 780
+lookupTable = tab lookupRule 0 792
 
 -- The search reads images and these others in one table, since lending two costs it time.
 unfoldable pub searchTable : List ℕ

@@ -47,7 +47,7 @@ fn put_first(netlist: &[u8], list: &[u8], buffer: &mut [u8]) -> Piece
 
 // Searches all outputs of a change and keeps what is found, with the classes that full simulation gives. What is known stays.
 fn judge_outputs(
-    table: &[u8; 4876],
+    table: &[u8; 4888],
     rows: &[u16],
     shape: Shape,
     known: &mut [u8],

@@ -17,9 +17,9 @@ use Rattle.kung.proofs.Places.{search-other}
 use Rattle.kung.proofs.Unions.{setOf-or, block-or, halves}
 
 -- place x has the rule's entry i
-rule-at : (x i : ℕ) → x ≡ 4096 + i → i < 780 → getD searchTable x 0 ≡ lookupRule i
+rule-at : (x i : ℕ) → x ≡ 4096 + i → i < 792 → getD searchTable x 0 ≡ lookupRule i
 unfolding lookupTable
-rule-at x i e h = ap (λ (x : ℕ). getD searchTable x 0) e ∙ search-other i ∙ getD-tab lookupRule 780 i h
+rule-at x i e h = ap (λ (x : ℕ). getD searchTable x 0) e ∙ search-other i ∙ getD-tab lookupRule 792 i h
 
 -- what a waiting gate makes of a class
 pub join-at : (w k : ℕ) → w < 17 → getD searchTable (4096 + w * 8 + k % 8) 0 ≡ code (joinedBy w (ofCode k))
@@ -36,7 +36,7 @@ ends-at w g low four =
     let a : (136 + w * 4 + g - 136) / 4 ≡ w = omega arith in
     let b : (136 + w * 4 + g - 136) % 4 ≡ g = omega arith in
     rule-at (4096 + 136 + w * 4 + g) (136 + w * 4 + g) (omega arith) (omega arith)
-    ∙ rw (le-ltb (136 + w * 4 + g) 136 (omega arith), lt-ltb (136 + w * 4 + g) 204 (omega arith)) (λ i. setOf (endsWith (a i) (b i)))
+    ∙ rw (le-ltb (136 + w * 4 + g) 136 (omega arith), lt-ltb (136 + w * 4 + g) 216 (omega arith)) (λ i. setOf (endsWith (a i) (b i)))
 
 pub stop-at : (w g m : ℕ) → w < 17 → g < 4 → m < 256 → bitOr (255 - m) (getD searchTable (4096 + 136 + w * 4 + g) 0) ≡ stopSet w g m
 unfolding stopSet setOf has tab
@@ -45,19 +45,19 @@ stop-at w g m low four byte =
     ∙ sym (setOf-or (λ p. not (has m p)) (endsWith w g))
 
 -- entry k of a block
-entry : (b k m : ℕ) → b < 18 → k < 32 → cond (ltb k 16) (k % 16) (k % 16 * 16) ≡ m → getD searchTable (4096 + 204 + b * 32 + k) 0 ≡ blockRule b m
+entry : (b k m : ℕ) → b < 18 → k < 32 → cond (ltb k 16) (k % 16) (k % 16 * 16) ≡ m → getD searchTable (4096 + 216 + b * 32 + k) 0 ≡ blockRule b m
 unfolding lookupRule wantedRule halfSet
 entry b k m low less e =
-    let c : (204 + b * 32 + k - 204) / 32 ≡ b = omega arith in
-    let d : (204 + b * 32 + k - 204) % 32 ≡ k = omega arith in
-    let f : (204 + b * 32 + k - 204) % 16 ≡ k % 16 = omega arith in
-    rule-at (4096 + 204 + b * 32 + k) (204 + b * 32 + k) (omega arith) (omega arith)
-    ∙ rw (le-ltb (204 + b * 32 + k) 136 (omega arith), le-ltb (204 + b * 32 + k) 204 (omega arith))
+    let c : (216 + b * 32 + k - 216) / 32 ≡ b = omega arith in
+    let d : (216 + b * 32 + k - 216) % 32 ≡ k = omega arith in
+    let f : (216 + b * 32 + k - 216) % 16 ≡ k % 16 = omega arith in
+    rule-at (4096 + 216 + b * 32 + k) (216 + b * 32 + k) (omega arith) (omega arith)
+    ∙ rw (le-ltb (216 + b * 32 + k) 136 (omega arith), le-ltb (216 + b * 32 + k) 216 (omega arith))
     (λ i. blockRule (c i) (cond (ltb (d i) 16) (f i) (f i * 16)))
     ∙ ap (blockRule b) e
 
 pub block-at : (b m : ℕ) → b < 18 → m < 256
-    → bitOr (getD searchTable (4096 + 204 + b * 32 + m % 16) 0) (getD searchTable (4096 + 204 + b * 32 + (16 + m / 16)) 0) ≡ blockRule b m
+    → bitOr (getD searchTable (4096 + 216 + b * 32 + m % 16) 0) (getD searchTable (4096 + 216 + b * 32 + (16 + m / 16)) 0) ≡ blockRule b m
 block-at b m low byte =
     ap₂ bitOr (entry b (m % 16) (m % 16) low (omega arith) lower) (entry b (16 + m / 16) (m / 16 * 16) low (omega arith) upper)
     ∙ sym (block-or b (m % 16) (m / 16 * 16)) ∙ ap (blockRule b) (halves m)

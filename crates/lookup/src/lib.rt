@@ -25,7 +25,7 @@ fn place(operation: u8, p: u8, set: u8) -> usize
 }
 
 // What p joined with a class of the set can give.
-pub fn image_of(table: &[u8; 4876], operation: u8, p: u8, set: u8) -> u8
+pub fn image_of(table: &[u8; 4888], operation: u8, p: u8, set: u8) -> u8
     requires { ⌜ now table ≡ searchTable ⌝ }
     ensures { λ r. ⌜ r ≡ image (opAt operation) (ofCode p) set ⌝ }
 {
@@ -33,7 +33,7 @@ pub fn image_of(table: &[u8; 4876], operation: u8, p: u8, set: u8) -> u8
 }
 
 // The join of two classes: the one class of an image, so the lowest.
-pub fn joined(table: &[u8; 4876], operation: u8, p: u8, class: u8) -> u8
+pub fn joined(table: &[u8; 4888], operation: u8, p: u8, class: u8) -> u8
     requires { ⌜ now table ≡ searchTable ⌝ }
     ensures { λ r. ⌜ r ≡ code (join (opAt operation) (ofCode p) (ofCode class)) ⌝ }
 {
@@ -42,7 +42,7 @@ pub fn joined(table: &[u8; 4876], operation: u8, p: u8, class: u8) -> u8
 }
 
 // What a gate can still give, p being the join of the pins taken.
-pub fn possible_set(table: &[u8; 4876], operation: u8, inverted: bool, p: u8, left: bool) -> u8
+pub fn possible_set(table: &[u8; 4888], operation: u8, inverted: bool, p: u8, left: bool) -> u8
     requires { ⌜ now table ≡ searchTable ⌝ }
     ensures { λ r. ⌜ r ≡ possible (opAt operation) inverted (ofCode p) left ⌝ }
 {
@@ -54,7 +54,7 @@ pub fn possible_set(table: &[u8; 4876], operation: u8, inverted: bool, p: u8, le
 }
 
 // What the waiting gate makes of a class: the join with its p, or the class itself where nobody waits.
-pub fn joined_by(table: &[u8; 4876], waiter: u8, class: u8) -> u8
+pub fn joined_by(table: &[u8; 4888], waiter: u8, class: u8) -> u8
     requires { ⌜ (now table ≡ searchTable) × (waiter < 17) ⌝ }
     ensures { λ r. ⌜ r ≡ code (joinedBy waiter (ofCode class)) ⌝ }
 {
@@ -64,13 +64,13 @@ pub fn joined_by(table: &[u8; 4876], waiter: u8, class: u8) -> u8
 // Where a block's entry stands in the table of the search.
 fn entry_in(block: usize, entry: u8) -> usize
     requires { ⌜ block < 18 ⌝ }
-    ensures { λ r. ⌜ r ≡ 4096 + 204 + block * 32 + entry ⌝ }
+    ensures { λ r. ⌜ r ≡ 4096 + 216 + block * 32 + entry ⌝ }
 {
-    4096 + 204 + block * 32 + wide(entry)
+    4096 + 216 + block * 32 + wide(entry)
 }
 
 // What a block has for a set: the union of what it has for the set's halves.
-fn in_block(table: &[u8; 4876], block: usize, set: u8) -> u8
+fn in_block(table: &[u8; 4888], block: usize, set: u8) -> u8
     requires { ⌜ (now table ≡ searchTable) × (block < 18) ⌝ }
     ensures { λ r. ⌜ r ≡ blockRule block set ⌝ }
 {
@@ -78,7 +78,7 @@ fn in_block(table: &[u8; 4876], block: usize, set: u8) -> u8
 }
 
 // The classes that the waiting gate's p joins into the set.
-pub fn preimage_of(table: &[u8; 4876], waiter: u8, set: u8) -> u8
+pub fn preimage_of(table: &[u8; 4888], waiter: u8, set: u8) -> u8
     requires { ⌜ (now table ≡ searchTable) × (waiter < 16) ⌝ }
     ensures { λ r. ⌜ r ≡ preimage (opAt (waiter / 8)) (ofCode waiter) set ⌝ }
 {
@@ -86,7 +86,7 @@ pub fn preimage_of(table: &[u8; 4876], waiter: u8, set: u8) -> u8
 }
 
 // The classes that some further class joins into the set.
-pub fn reach_of(table: &[u8; 4876], operation: u8, set: u8) -> u8
+pub fn reach_of(table: &[u8; 4888], operation: u8, set: u8) -> u8
     requires { ⌜ now table ≡ searchTable ⌝ }
     ensures { λ r. ⌜ r ≡ reach (opAt operation) set ⌝ }
 {
@@ -94,7 +94,7 @@ pub fn reach_of(table: &[u8; 4876], operation: u8, set: u8) -> u8
 }
 
 // The p with which the checks end a gate's visit while pins are left; `reach` is the reach of its wanted set before inversion.
-pub fn stop_bits(table: &[u8; 4876], waiter: u8, gate: u8, reach: u8) -> u8
+pub fn stop_bits(table: &[u8; 4888], waiter: u8, gate: u8, reach: u8) -> u8
     requires { ⌜ (now table ≡ searchTable) × (waiter < 17) × (gate < 4) ⌝ }
     ensures { λ r. ⌜ r ≡ stopSet waiter gate reach ⌝ }
 {

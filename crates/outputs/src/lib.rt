@@ -26,7 +26,7 @@ pub fn byte_of(verdict: Verdict) -> u8
 
 // Searches each output afresh and writes its byte; returns the gates visited and pins taken in all searches. What is known stays.
 pub fn search_outputs(
-    table: &[u8; 4876],
+    table: &[u8; 4888],
     rows: &[u16],
     shape: Shape,
     known: &mut [u8],

@@ -95,7 +95,7 @@ fn goal_of(left: bool, reach: u8, want: u8) -> u8
 
 // A visit of signal s, of whose class nothing is told: its gate's pins are taken in turn, until none is left or the checks end the visit.
 fn visit(
-    table: &[u8; 4876],
+    table: &[u8; 4888],
     rows: &[u16],
     cells: &mut [u8],
     tally: &mut [u16; 2],
@@ -143,7 +143,7 @@ fn visit(
 
 // A pin on signal x is taken: the gate behind it is visited, unless its class is told.
 fn take(
-    table: &[u8; 4876],
+    table: &[u8; 4888],
     rows: &[u16],
     cells: &mut [u8],
     tally: &mut [u16; 2],
@@ -192,7 +192,7 @@ fn verdict_of(ending: u8) -> Verdict
 }
 
 // The search of signal s. Each call starts afresh, and leaves the lent bytes as they were.
-pub fn find(table: &[u8; 4876], rows: &[u16], known: &mut [u8], wanted: u8, s: usize) -> Found
+pub fn find(table: &[u8; 4888], rows: &[u16], known: &mut [u8], wanted: u8, s: usize) -> Found
     requires { ⌜ SearchReady (now table) (now rows) (now known) × (s < length (now known)) ⌝ }
     ensures found { λ r. ⌜ r ≡ foundOf (search (sourceFrom (now (rows .entry)) (now (known .entry))) wanted s) ⌝ }
     ensures known { λ r. ⌜ now (known .exit) ≡ now (known .entry) ⌝ }
