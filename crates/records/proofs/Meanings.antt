@@ -1,11 +1,11 @@
 -- What a kind byte means, by its ranges, and what the limits tell of it. Assumes nothing.
-use Prim.Native.Nat.{ℕ, zero, suc, _+_, _*_, _/_, _%_, _≤_, _<_}
+use Prim.Native.Nat.{ℕ, zero, suc, _+_, _-_, _*_, _/_, _%_, _≤_, _<_}
 use native.Mathlib.Omega.{arith}
 use mathlib.Core.Path.{_≡_, refl, _∙_, ap}
 use mathlib.Core.Bool.{Bool, true, false, cond, _||_}
 use mathlib.Core.List.{_∷_}
 use borrow.Author.Tests.{lt-ltb}
-use lib.Dec.{eqb, leb, ltb}
+use lib.Dec.{eqb, leb}
 use lib.ListN.{getD, List·getD-eq-default}
 use Rattle.kung.specs.Rule.{kindOf, kinds, BUFFER}
 use Rattle.kung.specs.Operation.{Op, and, or, opOf, inverts, opCode}
@@ -26,16 +26,25 @@ meaning-one (suc zero) l h = refl
 meaning-one (suc (suc zero)) l h = refl
 meaning-one (suc (suc (suc n))) l h = absurd (omega arith)
 
-pub meaning-many : (kind : ℕ) → 3 ≤ kind → kind < 7 → record { least = 2; most = 8; operation = (kind + 1) % 2; inverts = ltb 4 kind } ≡ meaningOf kind
+pub meaning-plain : (kind : ℕ) → 3 ≤ kind → kind < 5 → record { least = 2; most = 8; operation = kind - 3; inverts = false } ≡ meaningOf kind
 unfolding meaningOf noKind leastPins mostPins outside kindOf
-meaning-many zero l h = absurd (omega arith)
-meaning-many (suc zero) l h = absurd (omega arith)
-meaning-many (suc (suc zero)) l h = absurd (omega arith)
-meaning-many (suc (suc (suc zero))) l h = refl
-meaning-many (suc (suc (suc (suc zero)))) l h = refl
-meaning-many (suc (suc (suc (suc (suc zero))))) l h = refl
-meaning-many (suc (suc (suc (suc (suc (suc zero)))))) l h = refl
-meaning-many (suc (suc (suc (suc (suc (suc (suc n))))))) l h = absurd (omega arith)
+meaning-plain zero l h = absurd (omega arith)
+meaning-plain (suc zero) l h = absurd (omega arith)
+meaning-plain (suc (suc zero)) l h = absurd (omega arith)
+meaning-plain (suc (suc (suc zero))) l h = refl
+meaning-plain (suc (suc (suc (suc zero)))) l h = refl
+meaning-plain (suc (suc (suc (suc (suc n))))) l h = absurd (omega arith)
+
+pub meaning-inverted : (kind : ℕ) → 5 ≤ kind → kind < 7 → record { least = 2; most = 8; operation = kind - 5; inverts = true } ≡ meaningOf kind
+unfolding meaningOf noKind leastPins mostPins outside kindOf
+meaning-inverted zero l h = absurd (omega arith)
+meaning-inverted (suc zero) l h = absurd (omega arith)
+meaning-inverted (suc (suc zero)) l h = absurd (omega arith)
+meaning-inverted (suc (suc (suc zero))) l h = absurd (omega arith)
+meaning-inverted (suc (suc (suc (suc zero)))) l h = absurd (omega arith)
+meaning-inverted (suc (suc (suc (suc (suc zero))))) l h = refl
+meaning-inverted (suc (suc (suc (suc (suc (suc zero)))))) l h = refl
+meaning-inverted (suc (suc (suc (suc (suc (suc (suc n))))))) l h = absurd (omega arith)
 
 -- a byte that is no kind
 meaning-none : (kind : ℕ) → noKind kind ≡ true → kindOf kind ≡ BUFFER → record { least = 1; most = 0; operation = 0; inverts = false } ≡ meaningOf kind

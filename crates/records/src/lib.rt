@@ -16,24 +16,27 @@ pub struct Meaning {
     pub inverts: bool,
 }
 
-// Kinds are told from other bytes first: then no jump depends on which kind it is.
 pub fn meaning_of(kind: u8) -> Meaning
     ensures { λ r. ⌜ r ≡ meaningOf kind ⌝ }
 {
     match kind {
-        1..=6 => match kind {
-            1..=2 => Meaning {
-                least: 1,
-                most: 1,
-                operation: 0,
-                inverts: kind == 1,
-            },
-            _ => Meaning {
-                least: 2,
-                most: 8,
-                operation: (kind + 1) % 2,
-                inverts: 4 < kind,
-            },
+        1..=2 => Meaning {
+            least: 1,
+            most: 1,
+            operation: 0,
+            inverts: kind == 1,
+        },
+        3..=4 => Meaning {
+            least: 2,
+            most: 8,
+            operation: kind - 3,
+            inverts: false,
+        },
+        5..=6 => Meaning {
+            least: 2,
+            most: 8,
+            operation: kind - 5,
+            inverts: true,
         },
         _ => Meaning {
             least: 1,
