@@ -1,5 +1,6 @@
 -- `check_outputs`: what is left of the entries is the whole of what follows the records. Assumes nothing.
 use Prim.Native.Nat.{_+_, _-_, _*_, _/_, _≤_}
+use native.Mathlib.Omega.{arith}
 use mathlib.Core.Path.{_≡_, _∙_, sym}
 use borrow.Author.Tests.{lt-ltb, le-ltb}
 use lib.Dec.{ltb}
@@ -108,10 +109,10 @@ before-entries c =
     pins-room (start .args .s .now) (read .before .word-at2 .ensures) (start .pre .0)
 
 sub-t21 : tie.Need-sub-t21 Inv-loop μ-loop
-sub-t21 c = before-entries c .0
+sub-t21 c = omega (arith, before-entries c)
 
 sub-t23 : tie.Need-sub-t23 Inv-loop μ-loop
-sub-t23 c = before-entries c .1
+sub-t23 c = omega (arith, before-entries c)
 
 returns-3 : tie.Need-returns-3 Inv-loop μ-loop
 returns-3 c =
