@@ -30,7 +30,7 @@ unfoldable pub stopSet : (waiter gate reach : ℕ) → ℕ
 stopSet w g reach = setOf (λ p. not (has reach p) || endsWith w g p)
 
 -- 136 joins (17 waiting gates, eight classes), 80 stop bytes (20 waiting gates, of which those above 16 are never asked for, four gates), 576 wanted
--- sets: 4,888 entries with the images, which lie in a call's frame so that no store of 16 crosses a cache line.
+-- sets: 4,888 entries with the images, of which most then lie in a call's frame where they are made by aligned stores.
 unfoldable pub lookupRule : ℕ → ℕ
 lookupRule i =
     cond (ltb i 136) (code (joinedBy (i / 8) (ofCode i)))
