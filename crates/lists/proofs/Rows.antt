@@ -38,15 +38,15 @@ module _ {m : Method} {w : ℕ} (r : Regular m w) where
   rowed-is c b = ap (λ w. rows (m .row) c ++ drop (c * w) b) (sym (r .wide))
 
   -- the first c of T rows leave the buffer its length, and room for the next
-  module _ (T c : ℕ) (b now : List ℕ) (enough : T * m .width ≤ length b) (is : now ≡ rowed m c b) where
+  module _ (T c : ℕ) (b now : List ℕ) (enough : T * w ≤ length b) (is : now ≡ rowed m c b) where
     pub rowed-kept : c ≤ T → length now ≡ length b
     rowed-kept h =
         ap length (is ∙ rowed-is c b) ∙ length-append (rows (m .row) c) (drop (c * w) b)
-        ∙ omega (arith, rows-length c, length-drop (c * w) b, mul-le-mul-right {m = c} {n = T} w h, rw (← r .wide) at enough)
+        ∙ omega (arith, rows-length c, length-drop (c * w) b, mul-le-mul-right {m = c} {n = T} w h)
 
     pub rowed-room : c < T → c * w + w ≤ length now
     rowed-room h =
-        omega (arith, rowed-kept (omega arith), suc-mul c w, mul-le-mul-right {m = suc c} {n = T} w h, rw (← r .wide) at enough)
+        omega (arith, rowed-kept (omega arith), suc-mul c w, mul-le-mul-right {m = suc c} {n = T} w h)
 
   -- one row more, written into the rest
   pub rowed-next : (c : ℕ) (b now exit : List ℕ) → now ≡ rowed m c b

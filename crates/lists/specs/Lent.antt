@@ -1,19 +1,12 @@
 -- What the loops are lent and hand back.
 use Prim.Native.Nat.{ℕ, _*_, _≤_}
 use mathlib.Core.Path.{_≡_}
-use mathlib.Core.Bool.{true}
 use mathlib.Core.List.{List, _++_}
 use lib.ListN.{length, drop, replicate}
 use Rattle.netlist.specs.declared.Shape.{Shape}
-use Rattle.changes.specs.declared.Task.{Task}
-use Rattle.changes.specs.Lent.{Accepts, signalsOf}
+use Rattle.changes.specs.Lent.{signalsOf}
 use Rattle.lists.specs.declared.Judged.{Judged}
 use Rattle.lists.specs.Methods.{rows, Method, doneFor}
-
--- an accepted list with the rows of its netlist, and room for the rows of its changes
-pub record AllOf (m : Method) (netlist list rows : List ℕ) (task : Task) (room : ℕ) : Type 0 where
-  pub of : Accepts true netlist list rows task
-  pub enough : task .changes * m .width ≤ room
 
 -- CORE's room for one change after the other: a byte for each signal, of which past the inputs nothing is known
 pub record KnownRoom (known : List ℕ) (shape : Shape) : Type 0 where

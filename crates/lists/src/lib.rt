@@ -1,10 +1,11 @@
 // The three loops over the changes of an accepted list, one for each method: its rows go into the buffer one after the other.
 ghost use mathlib.Core.Path.{_≡_};
-ghost use Prim.Native.Nat.{_≤_};
+ghost use mathlib.Core.Bool.{true};
+ghost use Prim.Native.Nat.{_*_, _≤_};
 ghost use lib.ListN.{length};
-ghost use Rattle.changes.specs.Lent.{signalsOf};
+ghost use Rattle.changes.specs.Lent.{Accepts, signalsOf};
 ghost use Rattle.lists.specs.Methods.{fullOf, forwardOf, coreOf};
-ghost use Rattle.lists.specs.Lent.{AllOf, KnownRoom, Judges};
+ghost use Rattle.lists.specs.Lent.{KnownRoom, Judges};
 ghost use Rattle.lists.specs.Left.{after, heated, knownConstants, filled};
 use changes::Task;
 
@@ -28,7 +29,7 @@ pub fn full_rows(
     hot: &mut [u8],
     buffer: &mut [u8],
 ) -> Judged
-    requires { ⌜ AllOf (fullOf (now netlist) (now list)) (now netlist) (now list) (now rows) task (length (now buffer)) ⌝ }
+    requires { ⌜ Accepts true (now netlist) (now list) (now rows) task × (task .changes * signalsOf (task .shape) ≤ length (now buffer)) ⌝ }
     requires { ⌜ signalsOf (task .shape) ≤ length (now hot) ⌝ }
     ensures { λ r. ⌜ Judges (fullOf (now (netlist .entry)) (now (list .entry))) (task .changes) (now (buffer .entry)) (now (buffer .exit)) r ⌝ }
     ensures hot { λ r. ⌜ now (hot .exit) ≡ after (heated (now (netlist .entry)) (now (list .entry)) task) (task .changes) (now (hot .entry)) ⌝ }
@@ -60,7 +61,7 @@ pub fn forward_rows(
     hot: &mut [u8],
     buffer: &mut [u8],
 ) -> Judged
-    requires { ⌜ AllOf (forwardOf (now netlist) (now list)) (now netlist) (now list) (now rows) task (length (now buffer)) ⌝ }
+    requires { ⌜ Accepts true (now netlist) (now list) (now rows) task × (task .changes * task .shape .outputs ≤ length (now buffer)) ⌝ }
     requires { ⌜ (signalsOf (task .shape) ≤ length (now known)) × (length (now known) ≤ length (now hot)) ⌝ }
     ensures { λ r. ⌜ Judges (forwardOf (now (netlist .entry)) (now (list .entry))) (task .changes) (now (buffer .entry)) (now (buffer .exit)) r ⌝ }
     ensures known { λ r. ⌜ now (known .exit) ≡ after (knownConstants (now (netlist .entry)) (now (list .entry)) task) (task .changes) (now (known .entry)) ⌝ }
@@ -103,7 +104,7 @@ pub fn core_rows(
     known: &mut [u8],
     buffer: &mut [u8],
 ) -> Judged
-    requires { ⌜ AllOf (coreOf (now netlist) (now list)) (now netlist) (now list) (now rows) task (length (now buffer)) ⌝ }
+    requires { ⌜ Accepts true (now netlist) (now list) (now rows) task × (task .changes * task .shape .outputs ≤ length (now buffer)) ⌝ }
     requires { ⌜ KnownRoom (now known) (task .shape) ⌝ }
     ensures { λ r. ⌜ Judges (coreOf (now (netlist .entry)) (now (list .entry))) (task .changes) (now (buffer .entry)) (now (buffer .exit)) r ⌝ }
     ensures known { λ r. ⌜ now (known .exit) ≡ after (filled (now (list .entry)) task) (task .changes) (now (known .entry)) ⌝ }

@@ -11,7 +11,7 @@ use Rattle.changes.specs.Lent.{Accepts, signalsOf}
 use Rattle.changes.specs.Refusals.{listChecked}
 use Rattle.changes.proofs.Rooms.{in-room, accepts}
 use Rattle.lists.specs.declared.Judged.{Judged}
-use Rattle.lists.specs.Lent.{AllOf, Judges}
+use Rattle.lists.specs.Lent.{Judges}
 use Rattle.lists.proofs.Changes.{card}
 use Rattle.batch.specs.declared.Analysis.{Analysis}
 use Rattle.batch.specs.Batch.{Answers}
@@ -63,13 +63,6 @@ module _ (c : tie.Else1) (a : Analysis) (is : analysis (c .before .before .befor
   fits =
       subst (λ w. task bound .changes * w ≤ length buffer) (c .before .before .row-width .ensures ∙ ap (λ a. widthFor a (task bound .shape)) is) (c .if1 .left)
 
-  all : AllOf (methodOf a (netlist bound) (list bound)) (netlist bound) (list bound) (rows bound) (task bound) (length buffer)
-  all =
-      record {
-        of = given bound;
-        enough = subst (λ w. task bound .changes * w ≤ length buffer) (regular (netlist bound) (list bound) (accepted bound) a .wide) fits;
-      }
-
   answers : (r : Judged) (exit : List ℕ) → Judges (methodOf a (netlist bound) (list bound)) (task bound .changes) buffer exit r
       → Answers (methodOf (analysis bound) (netlist bound) (list bound)) (netlist bound) (list bound) buffer exit r
   answers r exit h =
@@ -114,7 +107,7 @@ full-rows-requires c κs =
     let t = c .before .before .before in
     let e = t .before .before in
     let k = bound e _ (t .enum-told .given .1) in
-    (all e _ (t .enum-told .given .1), omega (arith, told k, begun k .pre .1))
+    ((given k, fits e _ (t .enum-told .given .1)), omega (arith, told k, begun k .pre .1))
 
 enum-told-2 : tie.Need-enum-told-2
 enum-told-2 c = search needs
@@ -124,7 +117,7 @@ forward-rows-requires c κs =
     let t = c .before .before .before .before in
     let e = t .before .before in
     let k = bound e _ (t .enum-told2 .given .1) in
-    (all e _ (t .enum-told2 .given .1), (told k, begun k .pre .1))
+    ((given k, fits e _ (t .enum-told2 .given .1)), (told k, begun k .pre .1))
 
 enum-told-3 : tie.Need-enum-told-3
 enum-told-3 c = search needs
@@ -134,7 +127,7 @@ core-rows-requires c κs =
     let t = c .before .before .before in
     let e = t .before .before in
     let k = bound e _ (t .enum-told3 .given .1) in (
-      all e _ (t .enum-told3 .given .1),
+      (given k, fits e _ (t .enum-told3 .given .1)),
       record { told = told k; none-known = ap (drop (task k .shape .inputs)) (begun k .pre .0 .none-known) },
     )
 

@@ -54,7 +54,7 @@ module _ (c : tie.Start Inv-loop μ-loop) where
   outputs = task .shape .outputs
 
   given : Accepts true netlist list rows task
-  given = c .pre .0 .of
+  given = c .pre .0 .0
 
   regular : Regular (forwardOf netlist list) outputs
   regular = forward-regular netlist list (given .accepted)
@@ -65,7 +65,7 @@ module _ (c : tie.At-loop Inv-loop μ-loop) where
   begun = c .before .before .before .before .before .before .before .before .before .before .before
 
   kept : length (c .loop .buffer) ≡ length (begun .args .buffer .now)
-  kept = rowed-kept (regular begun) (task begun .changes) (c .loop .change) _ _ (begun .pre .0 .enough) (c .loop .inv .1) (c .loop .inv .0)
+  kept = rowed-kept (regular begun) (task begun .changes) (c .loop .change) _ _ (begun .pre .0 .1) (c .loop .inv .1) (c .loop .inv .0)
 
   told : signals begun ≤ length (c .loop .known)
   told = omega (arith, begun .pre .1 .0, c .loop .inv .4)
@@ -77,7 +77,7 @@ module _ (c : tie.At-loop Inv-loop μ-loop) where
 room : (c : tie.In-loop Inv-loop μ-loop) → let o = outputs (begun (c .before)) in c .before .loop .change * o + o ≤ length (c .before .loop .buffer)
 room c =
     let s = begun (c .before) in
-    rowed-room (regular s) (task s .changes) (c .before .loop .change) _ _ (s .pre .0 .enough) (c .before .loop .inv .1) (c .loop-test .taken)
+    rowed-room (regular s) (task s .changes) (c .before .loop .change) _ _ (s .pre .0 .1) (c .before .loop .inv .1) (c .loop-test .taken)
 
 -- what is lent as known
 module _ (c : tie.After-spread Inv-loop μ-loop) where
@@ -141,7 +141,7 @@ search-requires c κs = search needs
 
 add-signals : tie.Need-add-signals Inv-loop μ-loop
 add-signals c =
-    let f = card _ _ (c .before .before .before .before .before .before .before .before .before .before .pre .0 .of .accepted) in
+    let f = card _ _ (c .before .before .before .before .before .before .before .before .before .before .pre .0 .0 .accepted) in
     omega (arith, f .inputs-high, f .gates-high)
 
 loop-holds : tie.Need-loop-holds Inv-loop μ-loop

@@ -45,7 +45,7 @@ module _ (c : tie.Start Inv-loop μ-loop) where
   width = signalsOf (task .shape)
 
   regular : Regular (fullOf netlist list) width
-  regular = full-regular netlist list (c .pre .0 .of .accepted)
+  regular = full-regular netlist list (c .pre .0 .0 .accepted)
 
 -- the rows so far leave the buffer its length, and room for the next
 module _ (c : tie.At-loop Inv-loop μ-loop) where
@@ -53,16 +53,16 @@ module _ (c : tie.At-loop Inv-loop μ-loop) where
   begun = c .before .before .before .before .before .before .before .before .before
 
   kept : length (c .loop .buffer) ≡ length (begun .args .buffer .now)
-  kept = rowed-kept (regular begun) (task begun .changes) (c .loop .change) _ _ (begun .pre .0 .enough) (c .loop .inv .1) (c .loop .inv .0)
+  kept = rowed-kept (regular begun) (task begun .changes) (c .loop .change) _ _ (begun .pre .0 .1) (c .loop .inv .1) (c .loop .inv .0)
 
 room : (c : tie.In-loop Inv-loop μ-loop) → let w = width (begun (c .before)) in c .before .loop .change * w + w ≤ length (c .before .loop .buffer)
 room c =
     let s = begun (c .before) in
-    rowed-room (regular s) (task s .changes) (c .before .loop .change) _ _ (s .pre .0 .enough) (c .before .loop .inv .1) (c .loop-test .taken)
+    rowed-room (regular s) (task s .changes) (c .before .loop .change) _ _ (s .pre .0 .1) (c .before .loop .inv .1) (c .loop-test .taken)
 
 add-signals : tie.Need-add-signals Inv-loop μ-loop
 add-signals c =
-    let f = card _ _ (c .before .before .before .before .before .before .before .before .pre .0 .of .accepted) in
+    let f = card _ _ (c .before .before .before .before .before .before .before .before .pre .0 .0 .accepted) in
     omega (arith, f .inputs-high, f .gates-high)
 
 loop-holds : tie.Need-loop-holds Inv-loop μ-loop
@@ -88,7 +88,7 @@ lent c = lent-room (c .before .loop .change * width (begun (c .before))) (width 
 fill-inputs-requires : tie.Need-fill-inputs-requires Inv-loop μ-loop
 fill-inputs-requires c κs =
     let i = c .before .before in
-    let f = listed _ _ (begun (i .before) .pre .0 .of .accepted) in
+    let f = listed _ _ (begun (i .before) .pre .0 .0 .accepted) in
     (f .width-high, omega (arith, f .changes-high, i .loop-test .taken), omega (arith, lent i))
 
 pass-requires : tie.Need-pass-requires Inv-loop μ-loop
@@ -97,13 +97,13 @@ pass-requires c κs =
     let i = f .before .before .before in
     let s = begun (i .before) in (
       i .before .before .before .before .gate-table .ensures,
-      filled-passable _ _ _ _ (s .pre .0 .of) _ _ _ (f .fill-inputs .ensures) _ (lent i) (omega (arith, s .pre .1, i .before .loop .inv .2)),
+      filled-passable _ _ _ _ (s .pre .0 .0) _ _ _ (f .fill-inputs .ensures) _ (lent i) (omega (arith, s .pre .1, i .before .loop .inv .2)),
     )
 
 add-change : tie.Need-add-change Inv-loop μ-loop
 add-change c =
     let i = c .before .before .before .before .before .before .before .before .before .before .before .before in
-    omega (arith, i .loop-test .taken, listed _ _ (begun (i .before) .pre .0 .of .accepted) .changes-high)
+    omega (arith, i .loop-test .taken, listed _ _ (begun (i .before) .pre .0 .0 .accepted) .changes-high)
 
 loop-less : tie.Need-loop-less Inv-loop μ-loop
 loop-less c = search needs
@@ -116,10 +116,10 @@ loop-again c =
     let s = begun (i .before) in (
       omega (arith, i .loop-test .taken),
       rowed-next (regular s) (i .before .loop .change) _ _ _ (i .before .loop .inv .1)
-          (swept _ _ _ _ (s .pre .0 .of) _ _ _ (f .fill-inputs .ensures) _ (p .pass .ensures .codes)),
+          (swept _ _ _ _ (s .pre .0 .0) _ _ _ (f .fill-inputs .ensures) _ (p .pass .ensures .codes)),
       p .pass .kept .1 .1 .1 .1 .0 ∙ i .before .loop .inv .2,
       after-next _ _ (i .before .loop .change) _ _ (i .before .loop .inv .3)
-          (heated-by _ _ _ _ (s .pre .0 .of) _ _ _ (f .fill-inputs .ensures) _ _ (p .pass .ensures .hots)),
+          (heated-by _ _ _ _ (s .pre .0 .0) _ _ _ (f .fill-inputs .ensures) _ _ (p .pass .ensures .hots)),
     )
 
 same-length : tie.Need-same-length Inv-loop μ-loop
