@@ -5,8 +5,8 @@ use mathlib.Core.Path.{_≡_, refl, sym, _∙_, ap, ap₂}
 use mathlib.Core.Bool.{Bool}
 use mathlib.Core.List.{List, _∷_, _++_}
 use borrow.Author.Tests.{le-leb, lt-leb}
-use lib.ListN.{length, take, drop, replicate}
-use lib.Seq.{take-append-add}
+use lib.ListN.{length, take, drop, replicate, take-append-drop}
+use lib.Seq.{take-append-add, drop-at}
 use Rattle.kung.specs.Sets.{cleanSet, setOf}
 use Rattle.kung.specs.Lookup.{searchTable}
 use Rattle.words.specs.Refusal.{refuse}
@@ -31,6 +31,7 @@ use Rattle.visit.specs.Lent.{inputsKnown, SearchReady}
 use Rattle.outputs.specs.Lent.{OutputsReady}
 use Rattle.core.specs.Core.{searchOf, guarded, coreFrom, coreAnswer}
 use Rattle.core.specs.Codes.{guardedFound}
+use Rattle.core.specs.Lent.{NoneKnown}
 use Rattle.core.proofs.Cards.{sources-known, known-length, inputs-only, known-afresh}
 
 drop-replicate : (i m a : ℕ) → drop i (replicate m a) ≡ replicate (m - i) a
@@ -42,6 +43,17 @@ take-replicate : (g m a : ℕ) → g ≤ m → take g (replicate m a) ≡ replic
 take-replicate zero m a h = refl
 take-replicate (suc g) zero a h = absurd (omega arith)
 take-replicate (suc g) (suc m) a h = ap (λ l. a ∷ l) (take-replicate g m a (omega arith))
+
+-- a first part that comes back as it was lent
+pub part-back : (n : ℕ) (all back : List ℕ) → back ≡ take n all → back ++ drop n all ≡ all
+part-back n all back e = ap (λ k. k ++ drop n all) e ∙ take-append-drop n all
+
+-- a change writes the inputs' bytes alone
+pub none-again : (l : List ℕ) (w t i : ℕ) (old filled after : List ℕ) → NoneKnown i old → filled ≡ inputCodes l w t i ++ drop i old
+    → length filled ≡ length old → after ≡ filled → NoneKnown i after
+none-again l w t i old filled after none e same is =
+    ap (drop i) (is ∙ e) ∙ drop-at (inputCodes l w t i) (drop i old) i (tab-length (codeAt l w t) 0 i) ∙ none
+    ∙ ap (λ m. drop i (replicate m 8)) (sym (ap length is ∙ same))
 
 -- a change of an accepted list
 module _ {repeated : Bool} (n l rows : List ℕ) (task : Task) (a : Accepts repeated n l rows task) (t : ℕ) where
@@ -55,7 +67,7 @@ module _ {repeated : Bool} (n l rows : List ℕ) (task : Task) (a : Accepts repe
   known = inputsKnown (inputsOf n) (gatesOf n) (inputClassAt l (widthOf (inputsOf n)) t)
 
   -- the bytes that a search is lent: the inputs' classes are known, and no gate
-  pub known-is : (old filled : List ℕ) → drop (task .shape .inputs) old ≡ drop (task .shape .inputs) (replicate (length old) 8) → signalsOf (task .shape) ≤ length old
+  pub known-is : (old filled : List ℕ) → NoneKnown (task .shape .inputs) old → signalsOf (task .shape) ≤ length old
       → filled ≡ inputCodes l (task .width) t (task .shape .inputs) ++ drop (task .shape .inputs) old → take (signalsOf (task .shape)) filled ≡ known
   known-is old filled none room e =
       let i = task .shape .inputs in

@@ -5,8 +5,7 @@ use mathlib.Core.Path.{_≡_, refl, sym, _∙_, ap, ap₂}
 use mathlib.Core.Bool.{true}
 use mathlib.Core.List.{List, _++_}
 use lib.Dec.{eqb}
-use lib.ListN.{length, getD, take, drop, replicate, length-replicate, take-append-drop, List·getD-append}
-use lib.Seq.{drop-at}
+use lib.ListN.{length, getD, List·getD-append}
 use Rattle.kung.specs.Class.{Class, c0, classes, code, ofCode}
 use Rattle.kung.proofs.Finite.{ofCode-code}
 use Rattle.kung.specs.Sets.{cleanSet}
@@ -17,8 +16,6 @@ use Rattle.changes.specs.declared.Task.{Task}
 use Rattle.changes.specs.Changes.{widthOf, inputClassAt, sourcesOf}
 use Rattle.changes.specs.Formed.{ListFormed}
 use Rattle.changes.specs.Lent.{Accepts, signalsOf}
-use Rattle.inputs.specs.Written.{inputCodes, codeAt}
-use Rattle.inputs.proofs.Laws.{tab-length}
 use Rattle.simulate.specs.Full.{codes, classIn}
 use Rattle.simulate.proofs.Theorems.{codes-length, codes-at}
 use Rattle.search.specs.Search.{Verdict, clean, hazardous, search}
@@ -43,27 +40,6 @@ clean-byte hazardous = refl
 kept-class : (k : Class) → ofCode (code k % 256) ≡ k
 unfolding ofCode
 kept-class k = let e : code k % 256 % 8 ≡ code k % 8 = omega arith in ap (λ i. getD classes i c0) e ∙ ofCode-code k
-
--- bytes that say no class behind the first i, which are the inputs'
-pub record Unknown (i : ℕ) (known : List ℕ) : Type 0 where
-  pub all : length known ≡ 2304
-  pub none : drop i known ≡ drop i (replicate (length known) 8)
-
-pub unknown-first : (i : ℕ) → Unknown i (replicate 2304 8)
-unknown-first i = let long = length-replicate {A = ℕ} 2304 8 in record { all = long; none = ap (λ m. drop i (replicate m 8)) (sym long) }
-
--- a change fills the inputs' bytes, and the searches of the first n signals leave all
-pub unknown-again : (l : List ℕ) (width t i n : ℕ) (old filled left : List ℕ) → Unknown i old → filled ≡ inputCodes l width t i ++ drop i old
-    → length filled ≡ length old → left ≡ take n filled → Unknown i (left ++ drop n filled)
-unknown-again l width t i n old filled left u e kept same =
-    let back : left ++ drop n filled ≡ filled = ap (λ a. a ++ drop n filled) same ∙ take-append-drop n filled in
-    let long : length (left ++ drop n filled) ≡ length old = ap length back ∙ kept in
-    record {
-      all = long ∙ u .all;
-      none =
-          ap (drop i) (back ∙ e) ∙ drop-at (inputCodes l width t i) (drop i old) i (tab-length (codeAt l width t) 0 i)
-          ∙ u .none ∙ ap (λ m. drop i (replicate m 8)) (sym long);
-    }
 
 module _ (n l rows : List ℕ) (task : Task) (a : Accepts true n l rows task) (change : ℕ) (early : change < task .changes) where
   list-formed : ListFormed n l task

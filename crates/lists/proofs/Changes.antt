@@ -7,8 +7,7 @@ use mathlib.Core.Bool.{Bool, true, false}
 use mathlib.Core.Path.{_≡_, refl, sym, _∙_, ap}
 use mathlib.Core.List.{List, _++_}
 use mathlib.Core.Option.{Option}
-use lib.ListN.{length, drop, replicate}
-use lib.Seq.{drop-at}
+use lib.ListN.{length, drop}
 use Rattle.kung.specs.Class.{Class}
 use Rattle.kung.specs.Rule.{some}
 use Rattle.kung.specs.Sets.{bit, cleanSet}
@@ -16,7 +15,6 @@ use Rattle.kung.specs.Tables.{tab}
 use Rattle.kung.specs.Lookup.{searchTable}
 use Rattle.circuit.specs.Circuit.{Card}
 use Rattle.netlist.specs.Netlist.{inputsOf, gatesOf, outputsOf, outputAt, cardOf}
-use Rattle.netlist.specs.declared.Shape.{Shape}
 use Rattle.netlist.specs.Formed.{Formed}
 use Rattle.netlist.proofs.Accepted.{formed}
 use Rattle.changes.specs.declared.Task.{Task}
@@ -25,7 +23,7 @@ use Rattle.changes.specs.Changes.{widthOf, inputClassAt}
 use Rattle.changes.specs.Lent.{Accepts, signalsOf}
 use Rattle.changes.specs.Refusals.{listChecked}
 use Rattle.changes.proofs.Accepted.{listed}
-use Rattle.inputs.specs.Written.{inputCodes, codeAt, written}
+use Rattle.inputs.specs.Written.{written}
 use Rattle.inputs.proofs.Laws.{tab-length, written-all}
 use Rattle.simulate.proofs.Theorems.{codes-length}
 use Rattle.search.specs.Search.{Answer, search}
@@ -43,7 +41,6 @@ use Rattle.constants.proofs.Touched.{sum-ext}
 use Rattle.forward.proofs.Changes.{tab-ext}
 use Rattle.forward.specs.Forward.{outputSearch, visitedIn, forwardBytes}
 use Rattle.lists.specs.Methods.{coreBytes, coreSum, fullOf, forwardOf, coreOf}
-use Rattle.lists.specs.Lent.{KnownRoom}
 use Rattle.lists.proofs.Rows.{Regular}
 
 -- numbers of at most b each
@@ -119,19 +116,6 @@ module _ {task : Task} (n l : List ℕ) (accepted : listChecked n l ≡ Accepted
         outputs-high _ (λ k h. omega (arith, gates-within n l accepted c k, pins k)),
         outputs-high _ (λ k h. omega (arith, pins k)),
       )
-
--- filling the inputs of the next change leaves CORE its room: only their bytes are written
-pub room-next : {shape : Shape} {old : List ℕ} → KnownRoom old shape → (l : List ℕ) (w t : ℕ) (filled after : List ℕ)
-    → filled ≡ inputCodes l w t (shape .inputs) ++ drop (shape .inputs) old → length filled ≡ length old → after ≡ filled → KnownRoom after shape
-room-next {shape} {old} r l w t filled after e same is =
-    let i = shape .inputs in
-    rw is
-    (record {
-      told = omega (arith, r .told);
-      none-known =
-          ap (drop i) e ∙ drop-at (inputCodes l w t i) (drop i old) i (tab-length (codeAt l w t) 0 i) ∙ r .none-known
-          ∙ ap (λ n. drop i (replicate n 8)) (sym same);
-    })
 
 -- CORE on a change: the inputs are known, and no gate
 module _ (n l rows : List ℕ) (task : Task) (a : Accepts true n l rows task) (c : ℕ) (known : List ℕ)

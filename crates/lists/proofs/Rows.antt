@@ -5,7 +5,7 @@ use native.Mathlib.Numerals.{add-one}
 use native.Mathlib.Nat.{zero-mul, suc-mul, mul-le-mul-right}
 use mathlib.Core.Path.{_≡_, sym, _∙_, ap, ap₂}
 use mathlib.Core.List.{List, _++_, append-assoc, append-nil}
-use lib.ListN.{length, take, drop, length-append, length-drop, drop-of-length-le, take-append-drop}
+use lib.ListN.{length, take, drop, length-append, length-drop, drop-of-length-le}
 use lib.Seq.{length-take-le, take-all, take-at, drop-at, drop-drop}
 use borrow.Rule.Slice.PartMut.{putMid}
 use Rattle.lists.specs.Methods.{rows, Method}
@@ -19,10 +19,6 @@ pub record Regular (m : Method) (w : ℕ) : Type 0 where
 -- the part of a buffer from a place on
 pub lent-room : (at w : ℕ) (now : List ℕ) → at + w ≤ length now → w ≤ length (take (length now - at) (drop at now))
 lent-room at w now h = omega (arith, length-drop at now, length-take-le (length now - at) (drop at now) (omega (arith, length-drop at now)))
-
--- a first part that comes back as it was lent
-pub part-back : (n : ℕ) (all back : List ℕ) → back ≡ take n all → back ++ drop n all ≡ all
-part-back n all back e = ap (λ k. k ++ drop n all) e ∙ take-append-drop n all
 
 module _ {m : Method} {w : ℕ} (r : Regular m w) where
   pub rows-length : (n : ℕ) → length (rows (m .row) n) ≡ n * w

@@ -4,8 +4,9 @@ ghost use mathlib.Core.Bool.{true};
 ghost use Prim.Native.Nat.{_*_, _≤_};
 ghost use lib.ListN.{length};
 ghost use Rattle.changes.specs.Lent.{Accepts, signalsOf};
+ghost use Rattle.core.specs.Lent.{NoneKnown};
 ghost use Rattle.lists.specs.Methods.{fullOf, forwardOf, coreOf};
-ghost use Rattle.lists.specs.Lent.{KnownRoom, Judges};
+ghost use Rattle.lists.specs.Lent.{Judges};
 ghost use Rattle.lists.specs.Left.{after, heated, knownConstants, filled};
 use changes::Task;
 
@@ -105,7 +106,7 @@ pub fn core_rows(
     buffer: &mut [u8],
 ) -> Judged
     requires { ⌜ Accepts true (now netlist) (now list) (now rows) task × (task .changes * task .shape .outputs ≤ length (now buffer)) ⌝ }
-    requires { ⌜ KnownRoom (now known) (task .shape) ⌝ }
+    requires { ⌜ (signalsOf (task .shape) ≤ length (now known)) × NoneKnown (task .shape .inputs) (now known) ⌝ }
     ensures { λ r. ⌜ Judges (coreOf (now (netlist .entry)) (now (list .entry))) (task .changes) (now (buffer .entry)) (now (buffer .exit)) r ⌝ }
     ensures known { λ r. ⌜ now (known .exit) ≡ after (filled (now (list .entry)) task) (task .changes) (now (known .entry)) ⌝ }
 {

@@ -128,7 +128,7 @@ core-rows-requires c κs =
     let e = t .before .before in
     let k = bound e _ (t .enum-told3 .given .1) in (
       (given k, fits e _ (t .enum-told3 .given .1)),
-      record { told = told k; none-known = ap (drop (task k .shape .inputs)) (begun k .pre .0 .none-known) },
+      (told k, ap (drop (task k .shape .inputs)) (begun k .pre .0 .none-known)),
     )
 
 same-length-2 : tie.Need-same-length-2

@@ -5,7 +5,7 @@ use native.Mathlib.Omega.{arith}
 use mathlib.Core.Path.{_≡_, refl, sym, _∙_, ap, subst}
 use mathlib.Core.Bool.{true}
 use mathlib.Core.List.{List, _++_}
-use lib.ListN.{length, take, drop}
+use lib.ListN.{length, take, drop, replicate, length-replicate}
 use Rattle.netlist.specs.Netlist.{inputsOf, gatesOf}
 use Rattle.netlist.specs.Formed.{Formed}
 use Rattle.changes.specs.declared.Task.{Task}
@@ -16,6 +16,7 @@ use Rattle.changes.specs.Refusals.{listChecked}
 use Rattle.simulate.specs.Full.{codes}
 use Rattle.simulate.proofs.Laws.{swept}
 use Rattle.visit.specs.Lent.{inputsKnown}
+use Rattle.core.specs.Lent.{NoneKnown}
 use Rattle.core.proofs.Entry as entry
 use Rattle.report.specs.Appended.{Appended}
 use Rattle.report.proofs.Appending.{kept}
@@ -24,7 +25,7 @@ use Rattle.lines.specs.Lent.{textIn}
 use Rattle.text.specs.Listing.{changeLines, printedChanges}
 use Rattle.text.proofs.Laws.{changes-are}
 use Rattle.listing.proofs.Pages.{page-full, page-none, Grown, grown-none, grown-more, grown-all}
-use Rattle.listing.proofs.Prepared.{Unknown, unknown-first, unknown-again, lines-same, lines-high}
+use Rattle.listing.proofs.Prepared.{lines-same, lines-high}
 use borrow.Author.Needs.{needs}
 use Rattle.listing.proofs.put_page.Statement.{statement}
 use Rattle.listing.proofs.put_page.Tie as tie
@@ -32,7 +33,7 @@ use Rattle.listing.proofs.put_page.Tie as tie
 abbrev Inv-loop : tie.InvT-loop
 Inv-loop netlist list task rows from buffer₀ table gates shape signals classes₀ known₀ lines₀ change₀ at₀ buffer classes known lines change at =
     (change < task .changes) × (length classes ≡ 2304) × (length lines ≡ 256) × Grown netlist list buffer₀ buffer from change at
-    × Unknown (task .shape .inputs) known
+    × NoneKnown (task .shape .inputs) known × (length known ≡ 2304)
 
 abbrev μ-loop : tie.MeasureT-loop
 μ-loop netlist list task rows from buffer₀ table gates shape signals classes₀ known₀ lines₀ change₀ at₀ buffer classes known lines change at =
@@ -99,7 +100,7 @@ module _ (c : tie.After-fill-inputs Inv-loop μ-loop) where
   known : lent ≡ inputsKnown (inputsOf (netlist k)) (gatesOf (netlist k)) (inputClassAt (list k) (widthOf (inputsOf (netlist k))) (change k))
   known =
       entry.known-is (netlist k) (list k) (rows k) (task k) (given k) (change k) (k .loop .known) _
-      (k .loop .inv .4 .none) (omega (arith, few k, k .loop .inv .4 .all)) (c .fill-inputs .ensures)
+      (k .loop .inv .4) (omega (arith, few k, k .loop .inv .5)) (c .fill-inputs .ensures)
 
   all-known : length lent ≡ signals k
   all-known = ap length known ∙ entry.known-all (netlist k) (list k) (rows k) (task k) (given k) (change k)
@@ -149,7 +150,9 @@ add-signals c =
 loop-holds : tie.Need-loop-holds Inv-loop μ-loop
 loop-holds c =
     let s = c .before .before .before .before .before .before .before .before in
-    (s .pre .1, search needs, search needs, grown-none (s .args .netlist .now) (s .args .list .now) (s .args .buffer .now) (s .args .from), unknown-first (s .args .task .shape .inputs))
+    let i = s .args .task .shape .inputs in
+    let none : NoneKnown i (replicate 2304 8) = ap (λ m. drop i (replicate m 8)) (sym (length-replicate {A = ℕ} 2304 8)) in
+    (s .pre .1, search needs, search needs, grown-none (s .args .netlist .now) (s .args .list .now) (s .args .buffer .now) (s .args .from), none, search needs)
 
 sub-loop : tie.Need-sub-loop Inv-loop μ-loop
 sub-loop c = let g = c .loop .inv .3 .there in omega (arith, g .after, g .room, kept g)
@@ -175,12 +178,12 @@ slice-aggregate-fill-inputs c = search needs
 fill-inputs-requires : tie.Need-fill-inputs-requires Inv-loop μ-loop
 fill-inputs-requires c κs =
     let k = c .before .before .before .before .before .before in
-    (of-list k .width-high, omega (arith, of-list k .changes-high, k .loop .inv .0), omega (arith, few k, k .loop .inv .4 .all))
+    (of-list k .width-high, omega (arith, of-list k .changes-high, k .loop .inv .0), omega (arith, few k, k .loop .inv .5))
 
 array-borrow-prefix-known : tie.Need-array-borrow-prefix-known Inv-loop μ-loop
 array-borrow-prefix-known c =
     let f = c .before .before in
-    omega (arith, few (k f), f .fill-inputs .kept .1 .1 .1 .0, k f .loop .inv .4 .all)
+    omega (arith, few (k f), f .fill-inputs .kept .1 .1 .1 .0, k f .loop .inv .5)
 
 slice-aggregate-judge-outputs : tie.Need-slice-aggregate-judge-outputs Inv-loop μ-loop
 slice-aggregate-judge-outputs c = sym (all-known (c .before .before .before))
@@ -225,6 +228,11 @@ add-change c =
     let k = now (c .before .before) in
     omega (arith, of-list k .changes-high, k .loop .inv .0)
 
+-- the searches leave what is known
+again : (c : tie.After-judge-outputs Inv-loop μ-loop) → let f = filled c in
+    c .judge-outputs .last .1 .1 .1 .0 ++ drop (signals (k f)) (f .fill-inputs .last .1 .1 .1 .0) ≡ f .fill-inputs .last .1 .1 .1 .0
+again c = entry.part-back (signals (k (filled c))) _ _ (c .judge-outputs .ensures .1)
+
 loop-less : tie.Need-loop-less Inv-loop μ-loop
 loop-less c =
     let k = now (c .before .before .before .before) in
@@ -239,8 +247,9 @@ loop-again c =
       omega (arith, k .loop .inv .1, filled j .before .before .before .classify .kept .1 .1 .1 .1 .1 .0),
       omega (arith, k .loop .inv .2, j .judge-outputs .kept .1 .1 .1 .1 .1 .0),
       more p,
-      unknown-again (list k) (task k .width) (change k) (task k .shape .inputs) (signals k) (k .loop .known) _ _ (k .loop .inv .4)
-          (filled j .fill-inputs .ensures) (filled j .fill-inputs .kept .1 .1 .1 .0) (j .judge-outputs .ensures .1),
+      entry.none-again (list k) (task k .width) (change k) (task k .shape .inputs) (k .loop .known) _ _ (k .loop .inv .4)
+          (filled j .fill-inputs .ensures) (filled j .fill-inputs .kept .1 .1 .1 .0) (again j),
+      ap length (again j) ∙ filled j .fill-inputs .kept .1 .1 .1 .0 ∙ k .loop .inv .5,
     )
 
 same-length : tie.Need-same-length Inv-loop μ-loop

@@ -12,13 +12,14 @@ use Rattle.changes.specs.Lent.{Accepts, signalsOf}
 use Rattle.changes.specs.declared.Task.{Task}
 use Rattle.changes.proofs.Accepted.{listed}
 use Rattle.visit.specs.Lent.{inputsKnown}
-use Rattle.core.proofs.Entry.{known-is, known-all}
+use Rattle.core.specs.Lent.{NoneKnown}
+use Rattle.core.proofs.Entry.{part-back, none-again, known-is, known-all}
 use Rattle.lists.specs.declared.Judged.the-variants.{Done}
 use Rattle.lists.specs.Methods.{coreSum, coreOf}
-use Rattle.lists.specs.Lent.{KnownRoom, rowed}
+use Rattle.lists.specs.Lent.{rowed}
 use Rattle.lists.specs.Left.{after, filled}
-use Rattle.lists.proofs.Rows.{Regular, lent-room, part-back, rowed-none, rowed-kept, rowed-room, rowed-next}
-use Rattle.lists.proofs.Changes.{Counted, counted-none, counted-next, card, core-regular, searched-high, room-next, searchable, sums-are, bytes-are}
+use Rattle.lists.proofs.Rows.{Regular, lent-room, rowed-none, rowed-kept, rowed-room, rowed-next}
+use Rattle.lists.proofs.Changes.{Counted, counted-none, counted-next, card, core-regular, searched-high, searchable, sums-are, bytes-are}
 use Rattle.lists.proofs.Left.{after-none, after-next}
 use borrow.Author.Needs.{needs}
 use Rattle.lists.proofs.core_rows.Statement.{statement}
@@ -27,7 +28,7 @@ use Rattle.lists.proofs.core_rows.Tie as tie
 abbrev Inv-loop : tie.InvT-loop
 Inv-loop netlist list task rows known₀ buffer₀ search shape signals outputs visited₀ taken₀ change₀ change-end known buffer visited taken change =
     (change ≤ change-end) × (buffer ≡ rowed (coreOf netlist list) change buffer₀) × Counted (coreSum (λ a. a .gates) netlist list) change visited
-    × Counted (coreSum (λ a. a .pins) netlist list) change taken × KnownRoom known (task .shape) × (length known ≡ length known₀)
+    × Counted (coreSum (λ a. a .pins) netlist list) change taken × NoneKnown (task .shape .inputs) known × (length known ≡ length known₀)
     × (known ≡ after (filled list task) change known₀)
 
 abbrev μ-loop : tie.MeasureT-loop
@@ -60,13 +61,16 @@ module _ (c : tie.Start Inv-loop μ-loop) where
   regular : Regular (coreOf netlist list) outputs
   regular = core-regular netlist list (given .accepted)
 
--- the rows so far leave the buffer its length
+-- the rows so far leave the buffer its length, and the bytes for each signal
 module _ (c : tie.At-loop Inv-loop μ-loop) where
   abbrev begun : tie.Start Inv-loop μ-loop
   begun = c .before .before .before .before .before .before .before .before .before
 
   kept : length (c .loop .buffer) ≡ length (begun .args .buffer .now)
   kept = rowed-kept (regular begun) (task begun .changes) (c .loop .change) _ _ (begun .pre .0 .1) (c .loop .inv .1) (c .loop .inv .0)
+
+  told : signals begun ≤ length (c .loop .known)
+  told = omega (arith, begun .pre .1 .0, c .loop .inv .5)
 
 -- room for the next row
 room : (c : tie.In-loop Inv-loop μ-loop) → let o = outputs (begun (c .before)) in c .before .loop .change * o + o ≤ length (c .before .loop .buffer)
@@ -90,7 +94,7 @@ module _ (c : tie.After-fill-inputs Inv-loop μ-loop) where
 
   known : lent ≡ inputsKnown (inputsOf (netlist b)) (gatesOf (netlist b)) (inputClassAt (list b) (widthOf (inputsOf (netlist b))) (at .loop .change))
   known =
-      known-is (netlist b) (list b) (rows b) (task b) (given b) (at .loop .change) _ _ (at .loop .inv .4 .none-known) (at .loop .inv .4 .told) (c .fill-inputs .ensures)
+      known-is (netlist b) (list b) (rows b) (task b) (given b) (at .loop .change) _ _ (at .loop .inv .4) (told at) (c .fill-inputs .ensures)
 
   lent-all : length lent ≡ signals b
   lent-all = ap length known ∙ known-all (netlist b) (list b) (rows b) (task b) (given b) (at .loop .change)
@@ -132,7 +136,7 @@ add-signals c =
 loop-holds : tie.Need-loop-holds Inv-loop μ-loop
 loop-holds c =
     let s = c .before .before .before .before .before .before .before .before in
-    (search needs, rowed-none (regular s) _, counted-none _, counted-none _, s .pre .1, refl, after-none _ _)
+    (search needs, rowed-none (regular s) _, counted-none _, counted-none _, s .pre .1 .1, refl, after-none _ _)
 
 mul-at : tie.Need-mul-at Inv-loop μ-loop
 mul-at c = omega (arith, room c, kept (c .before))
@@ -141,12 +145,12 @@ fill-inputs-requires : tie.Need-fill-inputs-requires Inv-loop μ-loop
 fill-inputs-requires c κs =
     let i = c .before in
     let f = listed _ _ (given (begun (i .before)) .accepted) in
-    (f .width-high, omega (arith, f .changes-high, i .loop-test .taken), omega (arith, i .before .loop .inv .4 .told))
+    (f .width-high, omega (arith, f .changes-high, i .loop-test .taken), omega (arith, told (i .before)))
 
 slice-relend-prefix-search-outputs : tie.Need-slice-relend-prefix-search-outputs Inv-loop μ-loop
 slice-relend-prefix-search-outputs c =
     let f = c .before .before .before in
-    omega (arith, at f .loop .inv .4 .told, f .fill-inputs .kept .1 .1 .1 .0)
+    omega (arith, told (at f), f .fill-inputs .kept .1 .1 .1 .0)
 
 slice-aggregate-search-outputs : tie.Need-slice-aggregate-search-outputs Inv-loop μ-loop
 slice-aggregate-search-outputs c = sym (lent-all (c .before .before .before .before))
@@ -202,7 +206,7 @@ loop-again c =
           (o .search-outputs .ensures .1 .1 .0 ∙ bytes-are (netlist s) (list s) (rows s) (task s) (given s) (l .loop .change) _ (known f) _),
       visited o,
       taken o,
-      room-next (l .loop .inv .4) (list s) (task s .width) (l .loop .change) (f .fill-inputs .last .1 .1 .1 .0) _ (f .fill-inputs .ensures)
+      none-again (list s) (task s .width) (l .loop .change) (task s .shape .inputs) (l .loop .known) _ _ (l .loop .inv .4) (f .fill-inputs .ensures)
           (f .fill-inputs .kept .1 .1 .1 .0) (again o),
       ap length (again o) ∙ f .fill-inputs .kept .1 .1 .1 .0 ∙ l .loop .inv .5,
       after-next _ _ (l .loop .change) _ _ (l .loop .inv .6) (again o ∙ f .fill-inputs .ensures),

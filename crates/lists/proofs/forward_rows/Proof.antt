@@ -9,6 +9,7 @@ use Rattle.changes.specs.Lent.{Accepts, signalsOf}
 use Rattle.changes.specs.declared.Task.{Task}
 use Rattle.changes.proofs.Accepted.{listed}
 use Rattle.simulate.proofs.Laws.{filled-passable}
+use Rattle.core.proofs.Entry.{part-back}
 use Rattle.constants.specs.Change.{touchedIn}
 use Rattle.forward.specs.Forward.{visitedIn}
 use Rattle.forward.proofs.Changes as changes
@@ -16,7 +17,7 @@ use Rattle.lists.specs.declared.Judged.the-variants.{Done}
 use Rattle.lists.specs.Methods.{forwardOf}
 use Rattle.lists.specs.Lent.{rowed}
 use Rattle.lists.specs.Left.{after, heated, knownConstants}
-use Rattle.lists.proofs.Rows.{Regular, lent-room, part-back, rowed-none, rowed-kept, rowed-room, rowed-next}
+use Rattle.lists.proofs.Rows.{Regular, lent-room, rowed-none, rowed-kept, rowed-room, rowed-next}
 use Rattle.lists.proofs.Changes.{Counted, counted-none, counted-next, card, forward-regular, touched-high, visited-high}
 use Rattle.lists.proofs.Left.{after-none, after-next, heated-by, known-constants-by}
 use borrow.Author.Needs.{needs}
