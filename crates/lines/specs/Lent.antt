@@ -1,12 +1,10 @@
 -- What only the code and its proofs need: what the functions behind the lines are lent and hand on.
-use Prim.Native.Nat.{ℕ, _+_, _*_, _%_, _≤_, _<_}
-use mathlib.Core.Path.{_≡_}
-use mathlib.Core.Bool.{true}
+use Prim.Native.Nat.{ℕ, _+_, _*_, _%_}
 use mathlib.Core.List.{List, _++_}
 use lib.Dec.{eqb}
 use lib.ListN.{getD, set, drop}
 use Rattle.changes.specs.declared.Task.{Task}
-use Rattle.changes.specs.Lent.{Accepts, signalsOf}
+use Rattle.changes.specs.Lent.{signalsOf}
 use Rattle.inputs.specs.Written.{inputCodes}
 use Rattle.sweep.specs.Sweep.{codesOf}
 use Rattle.visit.specs.declared.Found.{Found}
@@ -32,13 +30,6 @@ lineIn lines change o =
 
 unfoldable pub textIn : (lines : List ℕ) → (change output : ℕ) → List ℕ
 textIn lines change o = textOf (lineIn lines change o)
-
--- a change of an accepted card, to be simulated in so many bytes
-pub record Classifiable (list rows : List ℕ) (task : Task) (change room : ℕ) : Type 0 where
-  pub netlist : List ℕ
-  pub accepts : Accepts true netlist list rows task
-  pub early : change < task .changes
-  pub enough : signalsOf (task .shape) ≤ room
 
 -- the classes of a change at the start of a buffer
 abbrev pub classesFrom : (list : List ℕ) → Task → (rows : List ℕ) → (change : ℕ) → (buffer : List ℕ) → List ℕ

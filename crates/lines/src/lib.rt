@@ -1,12 +1,14 @@
 // What the lines of one change are made from, and the bytes of lines, in lent buffers.
 ghost use mathlib.Core.Path.{_≡_};
-ghost use Prim.Native.Nat.{_+_, _*_, _≤_};
+ghost use mathlib.Core.Bool.{true};
+ghost use Prim.Native.Nat.{_+_, _*_, _≤_, _<_};
 ghost use lib.ListN.{length};
 ghost use Rattle.kung.specs.Gates.{gateTable};
+ghost use Rattle.changes.specs.Lent.{Accepts, signalsOf};
 ghost use Rattle.changes.specs.Refusals.{listChecked};
 ghost use Rattle.report.specs.Appended.{Appended};
 ghost use Rattle.lines.specs.Texts.{texts, firstLine};
-ghost use Rattle.lines.specs.Lent.{keptAt, lineIn, textIn, Classifiable, classesFrom};
+ghost use Rattle.lines.specs.Lent.{keptAt, lineIn, textIn, classesFrom};
 use changes::Listed;
 use changes::Task;
 use report::Line;
@@ -80,16 +82,18 @@ pub fn put_lines(
     next
 }
 
-// The classes of a change.
+// The classes of a change. Of the netlist only its rows are read: it says what they decode.
 pub fn classify(
     table: &[u8; 1024],
+    netlist: &[u8],
     list: &[u8],
     task: Task,
     rows: &[u16],
     change: usize,
     classes: &mut [u8],
 )
-    requires { ⌜ (now table ≡ gateTable) × Classifiable (now list) (now rows) task change (length (now classes)) ⌝ }
+    requires { ⌜ (now table ≡ gateTable) × (signalsOf (task .shape) ≤ length (now classes)) ⌝ }
+    requires { ⌜ Accepts true (now netlist) (now list) (now rows) task × (change < task .changes) ⌝ }
     ensures { λ r. ⌜ now (classes .exit) ≡ classesFrom (now (list .entry)) task (now (rows .entry)) change (now (classes .entry)) ⌝ }
 {
     let shape = task.shape;

@@ -90,7 +90,7 @@ fn put_page(
     let mut change = from;
     let mut at: usize = 0;
     while ROOM <= buffer.len() - at {
-        lines::classify(&gates, list, task, rows, change, &mut classes);
+        lines::classify(&gates, netlist, list, task, rows, change, &mut classes);
         inputs::fill_inputs(list, task, change, &mut known);
         judge_outputs(
             &table,

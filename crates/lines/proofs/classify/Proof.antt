@@ -25,9 +25,9 @@ classes-from l task rows t old e x =
 
 fill-inputs-requires : tie.Need-fill-inputs-requires
 fill-inputs-requires c κs =
-    let k = c .before .before .before .before .before .pre .1 in
-    let f = list-formed _ _ _ _ (k .accepts) 0 in
-    (f .width-high, omega (arith, f .changes-high, k .early), omega (arith, k .enough))
+    let p = c .before .before .before .before .before .before .pre in
+    let f = list-formed _ _ _ _ (p .1 .0) 0 in
+    (f .width-high, omega (arith, f .changes-high, p .1 .1), omega (arith, p .0 .1))
 
 slice-aggregate-pass : tie.Need-slice-aggregate-pass
 slice-aggregate-pass c = search needs
@@ -35,10 +35,9 @@ slice-aggregate-pass c = search needs
 pass-requires : tie.Need-pass-requires
 pass-requires c κs =
     let i = c .before .before .before .before in
-    let s = i .before .before .before .before .before .before in
-    let k = s .pre .1 in
-    let f = card-formed _ _ _ _ (k .accepts) 0 in
-    (s .pre .0, filled-passable _ _ _ _ (k .accepts) _ _ _ (i .fill-inputs .ensures) _ (k .enough) (omega (arith, f .inputs-high, f .gates-high)))
+    let p = i .before .before .before .before .before .before .before .pre in
+    let f = card-formed _ _ _ _ (p .1 .0) 0 in
+    (p .0 .0, filled-passable _ _ _ _ (p .1 .0) _ _ _ (i .fill-inputs .ensures) _ (p .0 .1) (omega (arith, f .inputs-high, f .gates-high)))
 
 same-length : tie.Need-same-length
 same-length c = search needs
@@ -47,7 +46,7 @@ returns : tie.Need-returns
 returns c =
     let p = c .before .before .before in
     let i = p .before .before .before .before .before in
-    let a = i .before .before .before .before .before .before .args in
+    let a = i .before .before .before .before .before .before .before .args in
     classes-from (a .list .now) (a .task) (a .rows .now) (a .change) (a .classes .now) (i .fill-inputs .ensures) (p .pass .ensures .codes)
 
 pub classify-spec : {M : Type 1} → statement M

@@ -84,7 +84,7 @@ module _ (c : tie.After-classify Inv-loop μ-loop) where
   inside = c .before .before .before .before
 
   abbrev classes : List ℕ
-  classes = c .classify .last .1 .1 .1 .1 .1 .0
+  classes = c .classify .last .1 .1 .1 .1 .1 .1 .0
 
   classified : classes ≡ codes (netlist inside) (list inside) (change inside) ++ drop (signals inside) (inside .loop .classes)
   classified = swept (netlist inside) (list inside) (rows inside) (task inside) (given inside) (change inside) (inside .loop .classes) _ refl classes (c .classify .ensures)
@@ -162,15 +162,8 @@ slice-aggregate-classify c = search needs
 
 classify-requires : tie.Need-classify-requires Inv-loop μ-loop
 classify-requires c κs =
-    let k = c .before .before .before in (
-      k .before .before .before .gate-table .ensures,
-      record {
-        netlist = netlist k;
-        accepts = given k;
-        early = k .loop .inv .0;
-        enough = omega (arith, few k, k .loop .inv .1);
-      },
-    )
+    let k = c .before .before .before in
+    ((k .before .before .before .gate-table .ensures, omega (arith, few k, k .loop .inv .1)), (given k, k .loop .inv .0))
 
 slice-aggregate-fill-inputs : tie.Need-slice-aggregate-fill-inputs Inv-loop μ-loop
 slice-aggregate-fill-inputs c = search needs
@@ -200,7 +193,7 @@ judge-outputs-requires c κs =
     let k = k f in
     let r = entry.ready (netlist k) (list k) (rows k) (task k) (given k) (change k) (k .before .before .before .before .search .ensures) (lent f) (known f) in (
       entry.outputs-ready (netlist k) (list k) (rows k) (task k) (given k) (change k) (lent f) r (all-known f) 64 (card k .outputs-high),
-      (omega (arith, all-known f, few k, k .loop .inv .1, f .before .before .before .classify .kept .1 .1 .1 .1 .1 .0), omega (arith, k .loop .inv .2)),
+      (omega (arith, all-known f, few k, k .loop .inv .1, f .before .before .before .classify .kept .1 .1 .1 .1 .1 .1 .0), omega (arith, k .loop .inv .2)),
     )
 
 slice-aggregate-put-lines : tie.Need-slice-aggregate-put-lines Inv-loop μ-loop
@@ -244,7 +237,7 @@ loop-again c =
     let k = now p in
     let j = judged p in (
       omega (arith, k .loop .inv .0, c .if1 .left),
-      omega (arith, k .loop .inv .1, filled j .before .before .before .classify .kept .1 .1 .1 .1 .1 .0),
+      omega (arith, k .loop .inv .1, filled j .before .before .before .classify .kept .1 .1 .1 .1 .1 .1 .0),
       omega (arith, k .loop .inv .2, j .judge-outputs .kept .1 .1 .1 .1 .1 .0),
       more p,
       entry.none-again (list k) (task k .width) (change k) (task k .shape .inputs) (k .loop .known) _ _ (k .loop .inv .4)
