@@ -1,8 +1,8 @@
 // Every change of a list in one call: the card and its list are checked and decoded once, then all changes are judged.
 ghost use mathlib.Core.Path.{_≡_};
-ghost use Prim.Native.Nat.{_≤_};
-ghost use lib.ListN.{length};
-ghost use Rattle.core.specs.Lent.{SearchRoom};
+ghost use Prim.Native.Nat.{_+_, _*_, _≤_};
+ghost use lib.ListN.{length, replicate};
+ghost use Rattle.changes.specs.Lent.{signalsFor};
 ghost use Rattle.lists.specs.Methods.{fullOf, forwardOf, coreOf};
 ghost use Rattle.batch.specs.Batch.{Answers};
 ghost use Rattle.batch.specs.Lent.{methodOf, widthFor};
@@ -43,7 +43,8 @@ fn judge_in(
     known: &mut [u8],
     hot: &mut [u8],
 ) -> Judged
-    requires { ⌜ SearchRoom (now netlist) (now rows) (now known) × (length (now known) ≤ length (now hot)) ⌝ }
+    requires { ⌜ (signalsFor (now netlist) ≤ length (now known)) × (9 * length (now known) + 64 ≤ length (now rows)) ⌝ }
+    requires { ⌜ (now known ≡ replicate (length (now known)) 8) × (length (now known) ≤ length (now hot)) ⌝ }
     ensures { λ r. ⌜ Answers (methodOf analysis (now (netlist .entry)) (now (list .entry))) (now (netlist .entry)) (now (list .entry)) (now (buffer .entry)) (now (buffer .exit)) r ⌝ }
 {
     match changes::decode(netlist, list, rows, true) {

@@ -1,4 +1,3 @@
 pub mod Cards
 pub mod Entry
-pub mod Rooms
 pub mod Theorems

@@ -1,8 +1,10 @@
 // CORE: the search of an output of a change.
 ghost use mathlib.Core.Path.{_≡_};
+ghost use Prim.Native.Nat.{_+_, _*_, _≤_};
+ghost use lib.ListN.{length, replicate};
+ghost use Rattle.changes.specs.Lent.{signalsFor};
 ghost use Rattle.core.specs.Core.{coreAnswer};
 ghost use Rattle.core.specs.Codes.{guardedFound};
-ghost use Rattle.core.specs.Lent.{SearchRoom};
 use changes::Listed;
 use outputs::CLEAN_SET;
 use visit::Found;
@@ -54,7 +56,8 @@ fn core_in(
     rows: &mut [u16],
     known: &mut [u8],
 ) -> Cored
-    requires { ⌜ SearchRoom (now netlist) (now rows) (now known) ⌝ }
+    requires { ⌜ (signalsFor (now netlist) ≤ length (now known)) × (9 * length (now known) + 64 ≤ length (now rows)) ⌝ }
+    requires { ⌜ now known ≡ replicate (length (now known)) 8 ⌝ }
     ensures { λ r. ⌜ r ≡ coreAnswer (now (netlist .entry)) (now (list .entry)) change output ⌝ }
 {
     match changes::decode(netlist, list, rows, false) {

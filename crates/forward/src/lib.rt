@@ -1,12 +1,12 @@
 // The forward method: constants spread first, then a search for each output.
 ghost use mathlib.Core.Path.{_≡_};
 ghost use mathlib.Core.List.{_++_};
-ghost use Prim.Native.Nat.{_+_, _≤_};
+ghost use Prim.Native.Nat.{_+_, _*_, _≤_};
 ghost use lib.ListN.{length, drop};
 ghost use Rattle.kung.specs.Gates.{gateTable};
+ghost use Rattle.changes.specs.Lent.{signalsFor};
 ghost use Rattle.sweep.specs.Sweep.{codesOf, hotsOf, touchedBy};
 ghost use Rattle.sweep.specs.Lent.{Passable};
-ghost use Rattle.core.specs.Lent.{SearchRoom};
 ghost use Rattle.forward.specs.Known.{knownOr8, knownCodes, sweptCodes};
 ghost use Rattle.forward.specs.Forward.{forwardAnswer, forwardBuffer};
 use changes::Listed;
@@ -66,7 +66,8 @@ fn forward_in(
     known: &mut [u8],
     hot: &mut [u8],
 ) -> Forwarded
-    requires { ⌜ SearchRoom (now netlist) (now rows) (now known) × (length (now known) ≤ length (now hot)) ⌝ }
+    requires { ⌜ (signalsFor (now netlist) ≤ length (now known)) × (9 * length (now known) + 64 ≤ length (now rows)) ⌝ }
+    requires { ⌜ length (now known) ≤ length (now hot) ⌝ }
     ensures { λ r. ⌜ (r ≡ forwardAnswer (now (netlist .entry)) (now (list .entry)) change (now (buffer .entry))) × (now (buffer .exit) ≡ forwardBuffer (now (netlist .entry)) (now (list .entry)) change (now (buffer .entry))) ⌝ }
 {
     match changes::decode(netlist, list, rows, true) {

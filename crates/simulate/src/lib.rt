@@ -1,8 +1,8 @@
 // Full simulation: the waveform class of each signal for a change.
 ghost use mathlib.Core.Path.{_≡_};
-ghost use Prim.Native.Nat.{_+_};
-ghost use Rattle.rows.specs.Lent.{Room};
-ghost use Rattle.netlist.specs.Netlist.{inputsOf, gatesOf};
+ghost use Prim.Native.Nat.{_+_, _*_, _≤_};
+ghost use lib.ListN.{length};
+ghost use Rattle.changes.specs.Lent.{signalsFor};
 ghost use Rattle.simulate.specs.Full.{fullAnswer, fullBuffer};
 use changes::Listed;
 use words::word_at;
@@ -22,7 +22,7 @@ fn full_in(
     rows: &mut [u16],
     hot: &mut [u8],
 ) -> Simulated
-    requires { ⌜ Room (inputsOf (now netlist) + gatesOf (now netlist)) (now rows) (now hot) ⌝ }
+    requires { ⌜ (signalsFor (now netlist) ≤ length (now hot)) × (9 * length (now hot) + 64 ≤ length (now rows)) ⌝ }
     ensures { λ r. ⌜ (r ≡ fullAnswer (now (netlist .entry)) (now (list .entry)) change (now (buffer .entry))) × (now (buffer .exit) ≡ fullBuffer (now (netlist .entry)) (now (list .entry)) change (now (buffer .entry))) ⌝ }
 {
     match changes::decode(netlist, list, rows, true) {

@@ -46,10 +46,10 @@ module _ (c : tie.After-task) where
   accepted = sym (c .before .before .before .before .decode .ensures .0) ∙ c .task .given .1
 
   given : Accepts true netlist list rows task
-  given = accepts netlist list (begun .args .rows .now) (begun .args .known .now) accepted (begun .pre .0 .room) true rows (c .before .before .before .before .decode .ensures .1)
+  given = accepts netlist list accepted (begun .pre .0 .0) (begun .args .rows .now) (begun .pre .0 .1) true rows (c .before .before .before .before .decode .ensures .1)
 
   told : signalsOf (task .shape) ≤ length (begun .args .known .now)
-  told = in-room netlist list (begun .args .rows .now) (begun .args .known .now) accepted (begun .pre .0 .room)
+  told = in-room netlist list accepted (begun .pre .0 .0)
 
 -- the rows of an analysis have room
 module _ (c : tie.Else1) (a : Analysis) (is : analysis (c .before .before .before .before) ≡ a) where
@@ -107,7 +107,7 @@ full-rows-requires c κs =
     let t = c .before .before .before in
     let e = t .before .before in
     let k = bound e _ (t .enum-told .given .1) in
-    ((given k, fits e _ (t .enum-told .given .1)), omega (arith, told k, begun k .pre .1))
+    ((given k, fits e _ (t .enum-told .given .1)), omega (arith, told k, begun k .pre .1 .1))
 
 enum-told-2 : tie.Need-enum-told-2
 enum-told-2 c = search needs
@@ -117,7 +117,7 @@ forward-rows-requires c κs =
     let t = c .before .before .before .before in
     let e = t .before .before in
     let k = bound e _ (t .enum-told2 .given .1) in
-    ((given k, fits e _ (t .enum-told2 .given .1)), (told k, begun k .pre .1))
+    ((given k, fits e _ (t .enum-told2 .given .1)), (told k, begun k .pre .1 .1))
 
 enum-told-3 : tie.Need-enum-told-3
 enum-told-3 c = search needs
@@ -128,7 +128,7 @@ core-rows-requires c κs =
     let e = t .before .before in
     let k = bound e _ (t .enum-told3 .given .1) in (
       (given k, fits e _ (t .enum-told3 .given .1)),
-      (told k, ap (drop (task k .shape .inputs)) (begun k .pre .0 .none-known)),
+      (told k, ap (drop (task k .shape .inputs)) (begun k .pre .1 .0)),
     )
 
 same-length-2 : tie.Need-same-length-2

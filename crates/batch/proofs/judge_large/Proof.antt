@@ -1,8 +1,6 @@
 -- `batch::judge_large` meets its contract: the arrays are room for the card. Assumes nothing.
-use mathlib.Core.Path.{subst}
-use Prim.Native.Nat.{_≤_}
+use mathlib.Core.Path.{refl}
 use native.Mathlib.Omega.{arith}
-use Rattle.core.proofs.Rooms.{middle-room, large-room}
 use borrow.Author.Needs.{needs}
 use Rattle.batch.proofs.judge_large.Statement.{statement}
 use Rattle.batch.proofs.judge_large.Tie as tie
@@ -20,7 +18,7 @@ slice-aggregate-judge-in-3 : tie.Need-slice-aggregate-judge-in-3
 slice-aggregate-judge-in-3 c = search needs
 
 judge-in-requires : tie.Need-judge-in-requires
-judge-in-requires c κs = let t = c .before .before .before .before in (middle-room _ (subst (λ s. s ≤ 512) (t .before .signals-in .ensures) (t .if1 .taken)), omega arith)
+judge-in-requires c κs = search needs
 
 same-length : tie.Need-same-length
 same-length c = search needs
@@ -38,7 +36,7 @@ slice-aggregate-judge-in-6 : tie.Need-slice-aggregate-judge-in-6
 slice-aggregate-judge-in-6 c = search needs
 
 judge-in-requires-2 : tie.Need-judge-in-requires-2
-judge-in-requires-2 c κs = (large-room _, omega arith)
+judge-in-requires-2 c κs = ((omega arith, omega arith), (refl, omega arith))
 
 same-length-2 : tie.Need-same-length-2
 same-length-2 c = search needs

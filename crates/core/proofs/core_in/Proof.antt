@@ -44,10 +44,10 @@ module _ (c : tie.After-task) where
   accepted = sym (c .before .before .before .before .decode .ensures .0) ∙ c .task .given .1
 
   given : Accepts false netlist list rows task
-  given = accepts netlist list (begun .args .rows .now) (begun .args .known .now) accepted (begun .pre .room) false rows (c .before .before .before .before .decode .ensures .1)
+  given = accepts netlist list accepted (begun .pre .0 .0) (begun .args .rows .now) (begun .pre .0 .1) false rows (c .before .before .before .before .decode .ensures .1)
 
   room : signalsOf (task .shape) ≤ length (begun .args .known .now)
-  room = in-room netlist list (begun .args .rows .now) (begun .args .known .now) accepted (begun .pre .room)
+  room = in-room netlist list accepted (begun .pre .0 .0)
 
 -- what is lent as known
 module _ (c : tie.After-fill-inputs) where
@@ -60,7 +60,7 @@ module _ (c : tie.After-fill-inputs) where
   known : lent ≡ inputsKnown (inputsOf (netlist bound)) (gatesOf (netlist bound)) (inputClassAt (list bound) (widthOf (inputsOf (netlist bound))) (begun bound .args .change))
   known =
       known-is (netlist bound) (list bound) (rows bound) (task bound) (given bound) (begun bound .args .change) _ _
-      (ap (drop (task bound .shape .inputs)) (begun bound .pre .none-known)) (room bound) (c .fill-inputs .ensures)
+      (ap (drop (task bound .shape .inputs)) (begun bound .pre .1)) (room bound) (c .fill-inputs .ensures)
 
   all-known : length lent ≡ signalsOf (task bound .shape)
   all-known = ap length known ∙ known-all (netlist bound) (list bound) (rows bound) (task bound) (given bound) (begun bound .args .change)

@@ -39,10 +39,10 @@ module _ (c : tie.After-task) where
   accepted = sym (c .before .before .before .before .decode .ensures .0) ∙ c .task .given .1
 
   given : Accepts true netlist list rows task
-  given = accepts netlist list (begun .args .rows .now) (begun .args .known .now) accepted (begun .pre .0 .room) true rows (c .before .before .before .before .decode .ensures .1)
+  given = accepts netlist list accepted (begun .pre .0 .0) (begun .args .rows .now) (begun .pre .0 .1) true rows (c .before .before .before .before .decode .ensures .1)
 
   room : signalsOf (task .shape) ≤ length (begun .args .known .now)
-  room = in-room netlist list (begun .args .rows .now) (begun .args .known .now) accepted (begun .pre .0 .room)
+  room = in-room netlist list accepted (begun .pre .0 .0)
 
 -- what is lent as known
 module _ (c : tie.After-spread) where

@@ -6,7 +6,6 @@ use lib.ListN.{replicate}
 use Rattle.changes.specs.declared.Listed.the-variants.{Accepted}
 use Rattle.changes.specs.Refusals.{listChecked}
 use Rattle.changes.proofs.Rooms.{accepts}
-use Rattle.core.proofs.Rooms.{large-room}
 use Rattle.text.specs.Listing.{printedChanges}
 use Rattle.text.proofs.Laws.{changes-are}
 use Rattle.listing.proofs.Pages.{written-none}
@@ -47,8 +46,8 @@ put-page-requires : tie.Need-put-page-requires
 put-page-requires c κs =
     let e = c .before .before in
     let k = e .before .before .before in
-    let n = begun k .args .netlist .now in
-    (accepts n _ (replicate 20800 0) (replicate 2304 8) (accepted k) (large-room n .room) true _ (k .before .before .before .decode .ensures .1), e .if1 .left)
+    let given = accepts {bytes = 2304} _ _ (accepted k) (omega arith) (replicate 20800 0) (omega arith) true _ (k .before .before .before .decode .ensures .1) in
+    (given, e .if1 .left)
 
 returns-2 : tie.Need-returns-2
 unfolding printedChanges

@@ -23,7 +23,7 @@ accepted c = sym (c .before .before .before .before .decode .ensures .0) ∙ c .
 
 of : (c : tie.After-task) → let d = c .before .before .before .before in
     Accepts true (begun c .args .netlist .now) (begun c .args .list .now) (d .decode .last .1 .1 .0) (c .task .given .0 .0)
-of c = accepts _ _ _ _ (accepted c) (begun c .pre) true _ (c .before .before .before .before .decode .ensures .1)
+of c = accepts _ _ (accepted c) (begun c .pre .0) _ (begun c .pre .1) true _ (c .before .before .before .before .decode .ensures .1)
 
 decode-requires : tie.Need-decode-requires
 decode-requires c κs = search needs
@@ -66,7 +66,7 @@ pass-requires c κs =
     let e = c .before .before .before .before .before .before .before .before .before in
     let k = e .before .before .before .before .before .before in (
       c .before .before .before .before .before .before .before .before .gate-table .ensures,
-      filled-passable _ _ _ _ (of k) _ _ _ (i .fill-inputs .ensures) _ (omega (arith, e .if2 .left)) (in-room _ _ _ _ (accepted k) (begun k .pre)),
+      filled-passable _ _ _ _ (of k) _ _ _ (i .fill-inputs .ensures) _ (omega (arith, e .if2 .left)) (in-room _ _ (accepted k) (begun k .pre .0)),
     )
 
 same-length-3 : tie.Need-same-length-3
