@@ -15,7 +15,6 @@ use Rattle.kung.proofs.Finite.{ofCode-code}
 use Rattle.kung.proofs.Listed.{getD-tab}
 use Rattle.circuit.specs.Circuit.{Source, given, gate, pinsOf, sources}
 use Rattle.circuit.proofs.Laws.{sources-cases, sources-above}
-use Rattle.rows.specs.Lent.{GateRow}
 use Rattle.words.proofs.Laws.{words-length}
 use Rattle.records.specs.Records.{countAt}
 use Rattle.netlist.specs.Netlist.{inputsOf, gatesOf, placeOf, pinsBelow, pinTotal, cardOf}
@@ -94,19 +93,14 @@ module _ {repeated : Bool} (n rows : List ℕ) (d : Decoded repeated n rows) (v 
   pub known-length : length known ≡ inputsOf n + gatesOf n
   known-length = simp (length-append, tab-length, length-replicate)
 
-  pub inputs-only : (s : ℕ) → 8 ≤ getD known s 0 → GateRow rows s
-  inputs-only s h = go (decLt s (inputsOf n)) (decLt s (inputsOf n + gatesOf n))
-    where
-      go : Dec (s < inputsOf n) → Dec (s < inputsOf n + gatesOf n) → GateRow rows s
-      go (yes l) e = absurd (omega (arith, known-input s l, code-small (v s)))
-      go (no l) (yes e) = let at : inputsOf n + (s - inputsOf n) ≡ s = omega arith in rw at at (d .gate (s - inputsOf n) (omega arith))
-      go (no l) (no e) = absurd (omega (arith, known-past s (omega arith)))
+  pub known-below : (i : ℕ) → i < inputsOf n → getD known i 0 < 8
+  known-below i h = omega (arith, known-input i h, code-small (v i))
 
   pub known-afresh : Afresh known
   known-afresh s = go (decLt s (inputsOf n)) (decLt s (inputsOf n + gatesOf n))
     where
       go : Dec (s < inputsOf n) → Dec (s < inputsOf n + gatesOf n) → getD known s 0 ≤ 8
-      go (yes l) e = omega (arith, known-input s l, code-small (v s))
+      go (yes l) e = omega (arith, known-below s l)
       go (no l) (yes e) = let at : inputsOf n + (s - inputsOf n) ≡ s = omega arith in omega (arith, rw at at (known-gate (s - inputsOf n) (omega arith)))
       go (no l) (no e) = omega (arith, known-past s (omega arith))
 
@@ -116,7 +110,7 @@ module _ {repeated : Bool} (n rows : List ℕ) (d : Decoded repeated n rows) (v 
   sources-known =
       λ i s.
       sources-cases (cardOf n) c0 v (λ s c. sourceFrom rows known s ≡ c)
-      (λ s h. source-given rows known s (omega (arith, known-input s h, code-small (v s))) ∙ ap given (ap ofCode (known-input s h) ∙ ofCode-code (v s)))
+      (λ s h. source-given rows known s (known-below s h) ∙ ap given (ap ofCode (known-input s h) ∙ ofCode-code (v s)))
       (λ g h.
       source-gate rows known (inputsOf n + g) (omega (arith, known-gate g h)) ∙ (λ i. gate (d .kinds-are g h i) (d .pins-are g h i)))
       (λ s h. source-given rows known s (omega (arith, known-past s h)) ∙ ap given (ap ofCode (known-past s h)))

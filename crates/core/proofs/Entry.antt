@@ -1,5 +1,5 @@
 -- CORE for an output of a change: what the search is lent, and what is answered in each case. Assumes nothing.
-use Prim.Native.Nat.{ℕ, zero, suc, _+_, _-_, _*_, _≤_, _<_}
+use Prim.Native.Nat.{ℕ, zero, suc, _+_, _-_, _≤_, _<_}
 use native.Mathlib.Omega.{arith}
 use mathlib.Core.Path.{_≡_, refl, sym, _∙_, ap, ap₂}
 use mathlib.Core.Bool.{Bool}
@@ -10,8 +10,7 @@ use lib.Seq.{take-append-add, drop-at}
 use Rattle.kung.specs.Sets.{cleanSet, setOf}
 use Rattle.kung.specs.Lookup.{searchTable}
 use Rattle.words.specs.Refusal.{refuse}
-use Rattle.rows.specs.Rows.{outputIn}
-use Rattle.netlist.specs.Netlist.{inputsOf, gatesOf, outputAt}
+use Rattle.netlist.specs.Netlist.{inputsOf, gatesOf}
 use Rattle.netlist.specs.Formed.{Formed}
 use Rattle.netlist.proofs.Accepted.{formed}
 use Rattle.changes.specs.declared.Task.{Task}
@@ -27,12 +26,13 @@ use Rattle.search.specs.Search.{clean, hazardous, Verdict, Answer, search}
 use Rattle.core.specs.declared.Cored.the-variants.{Refused}
 use Rattle.visit.specs.Source.{sourceFrom}
 use Rattle.visit.specs.Found.{foundOf}
-use Rattle.visit.specs.Lent.{inputsKnown, SearchReady}
+use Rattle.visit.specs.Lent.{inputsKnown}
 use Rattle.outputs.specs.Lent.{OutputsReady}
+use Rattle.outputs.proofs.Ready.{outputs-ready}
 use Rattle.core.specs.Core.{searchOf, guarded, coreFrom, coreAnswer}
 use Rattle.core.specs.Codes.{guardedFound}
 use Rattle.core.specs.Lent.{NoneKnown}
-use Rattle.core.proofs.Cards.{sources-known, known-length, inputs-only, known-afresh}
+use Rattle.core.proofs.Cards.{sources-known, known-length, known-below, known-afresh}
 
 drop-replicate : (i m a : ℕ) → drop i (replicate m a) ≡ replicate (m - i) a
 drop-replicate zero m a = let e : m - 0 ≡ m = omega arith in rw e
@@ -85,39 +85,14 @@ module _ {repeated : Bool} (n l rows : List ℕ) (task : Task) (a : Accepts repe
       known-length n rows (a .decoded) (inputClassAt l (widthOf (inputsOf n)) t)
       ∙ sym (ap₂ _+_ (card-formed .inputs-are) (card-formed .gates-are))
 
-  pub ready : {table : List ℕ} → table ≡ searchTable → (k : List ℕ) → k ≡ known → SearchReady table rows k
-  ready is k e =
+  -- so the outputs can be searched
+  pub searchable : {table : List ℕ} → table ≡ searchTable → (k : List ℕ) → k ≡ known → (room : ℕ) → task .shape .outputs ≤ room
+      → OutputsReady table rows k (task .shape) room
+  searchable is k e room enough =
+      let v = inputClassAt l (widthOf (inputsOf n)) t in
       rw e
-      (record {
-        table-is = is;
-        gates-only = inputs-only n rows (a .decoded) (inputClassAt l (widthOf (inputsOf n)) t);
-        few-signals = omega (arith, known-all, card-formed .inputs-high, card-formed .gates-high);
-        afresh = known-afresh n rows (a .decoded) (inputClassAt l (widthOf (inputsOf n)) t);
-      })
-
-  -- the signal of an output
-  pub output-is : (o : ℕ) → o < task .shape .outputs → outputIn rows (signalsOf (task .shape)) o ≡ outputAt n o
-  output-is o h =
-      let f = card-formed in
-      ap (λ s. outputIn rows s o) (ap₂ _+_ (f .inputs-are) (f .gates-are)) ∙ a .decoded .outputs-are o (omega (arith, f .outputs-are))
-
-  pub output-below : (o : ℕ) → o < task .shape .outputs → outputIn rows (signalsOf (task .shape)) o < signalsOf (task .shape)
-  output-below o h = rw (output-is o h) (card-formed .output-below o h)
-
-  pub rows-long : 9 * signalsOf (task .shape) + task .shape .outputs ≤ length rows
-  rows-long = omega (arith, a .decoded .long, card-formed .inputs-are, card-formed .gates-are, card-formed .outputs-are)
-
-  pub outputs-ready : {table : List ℕ} (k : List ℕ) → SearchReady table rows k → length k ≡ signalsOf (task .shape)
-      → (room : ℕ) → task .shape .outputs ≤ room → OutputsReady table rows k (task .shape) room
-  outputs-ready k r all room enough =
-      record {
-        ready = r;
-        all-known = all;
-        outputs-high = card-formed .outputs-high;
-        output-below = λ o h. omega (arith, output-below o h);
-        listed = rows-long;
-        enough = enough;
-      }
+      (outputs-ready n l rows task a is known known-all (known-afresh n rows (a .decoded) v)
+      (λ i h. known-below n rows (a .decoded) v i (omega (arith, card-formed .inputs-are))) room enough)
 
   -- the search runs on the card of the definition
   pub search-is : (k : List ℕ) → k ≡ known → (w s : ℕ) → search (sourceFrom rows k) w s ≡ search (sourcesOf n l t) w s

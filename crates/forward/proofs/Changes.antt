@@ -19,7 +19,6 @@ use Rattle.kung.proofs.Finite.{ofCode-code}
 use Rattle.circuit.specs.Circuit.{Source, given, gate, outOf, value}
 use Rattle.circuit.proofs.Laws.{value-law, sources-cases}
 use Rattle.rows.specs.Rows.{rowKind, rowPins}
-use Rattle.rows.specs.Lent.{GateRow}
 use Rattle.netlist.specs.Netlist.{inputsOf, gatesOf, gateKind, gatePins, cardOf}
 use Rattle.netlist.specs.Formed.{Formed}
 use Rattle.netlist.proofs.Accepted.{formed}
@@ -36,8 +35,8 @@ use Rattle.visit.specs.Source.{signalOf, sourceFrom}
 use Rattle.visit.specs.Cells.{Afresh}
 use Rattle.outputs.specs.Outputs.{verdictByte, searchFrom, byteFrom, sumFrom}
 use Rattle.outputs.specs.Lent.{OutputsReady}
+use Rattle.outputs.proofs.Ready.{output-is, outputs-ready}
 use Rattle.cells.proofs.Codes.{code-small}
-use Rattle.core.proofs.Entry.{output-is, outputs-ready}
 use Rattle.simulate.proofs.Laws.{filled-codes, filled-after}
 use Rattle.simulate.specs.Full.{classIn, codes}
 use Rattle.simulate.proofs.Theorems.{class-value, codes-length}
@@ -181,7 +180,7 @@ module _ (n l rows : List ℕ) (task : Task) (a : Accepts true n l rows task) (t
   -- so the searches are those of the forward method
   search-is : (out : ℕ) → out < o → searchFrom rows known (i + g) out ≡ outputSearch n l t out
   unfolding searchFrom outputSearch
-  search-is out h = ap₂ (λ src s. search src cleanSet s) (fun-ext source-at) (output-is n l rows task a t out h)
+  search-is out h = ap₂ (λ src s. search src cleanSet s) (fun-ext source-at) (output-is n l rows task a out h)
 
   pub visited-is : sumFrom (λ a. a .gates) rows known (i + g) o ≡ visitedIn n l t
   unfolding visitedIn
@@ -194,16 +193,9 @@ module _ (n l rows : List ℕ) (task : Task) (a : Accepts true n l rows task) (t
       ∙ ap (λ bytes. bytes ++ drop o buffer)
       (tab-ext _ _ o (λ out h. ap (λ a. verdictByte (a .verdict)) (search-is out h)) ∙ ap (tab _ 0) (f .outputs-are))
 
-  -- only gates are to be searched
-  known-only : (s : ℕ) → 8 ≤ getD known s 0 → GateRow rows s
-  known-only s h = go (decLt s i) (decLt s (i + g))
-    where
-      go : Dec (s < i) → Dec (s < i + g) → GateRow rows s
-      go (yes below) d = absurd (omega (arith, known-input s below, code-small (classIn n l t s)))
-      go (no above) (yes below) =
-          let e : inputsOf n + (s - inputsOf n) ≡ s = omega (arith, f .inputs-are) in
-          rw e at (a .decoded .gate (s - inputsOf n) (omega (arith, f .inputs-are, all-signals)))
-      go (no above) (no beyond) = absurd (omega (arith, known-above s (omega arith)))
+  -- an input's byte is a class, and a gate's is one or 8
+  known-below : (s : ℕ) → s < i → getD known s 0 < 8
+  known-below s h = omega (arith, known-input s h, code-small (classIn n l t s))
 
   known-afresh : Afresh known
   known-afresh s = go (decLt s i) (decLt s (i + g))
@@ -213,7 +205,7 @@ module _ (n l rows : List ℕ) (task : Task) (a : Accepts true n l rows task) (t
       few false k = omega arith
 
       go : Dec (s < i) → Dec (s < i + g) → getD known s 0 ≤ 8
-      go (yes below) d = omega (arith, known-input s below, code-small (classIn n l t s))
+      go (yes below) d = omega (arith, known-below s below)
       go (no above) (yes below) =
           let e : i + (s - i) ≡ s = omega arith in
           let k = classIn n l t (i + (s - i)) in
@@ -223,15 +215,7 @@ module _ (n l rows : List ℕ) (task : Task) (a : Accepts true n l rows task) (t
   -- the outputs can be searched
   pub searchable : {table : List ℕ} → table ≡ searchTable → (k : List ℕ) → k ≡ known → (room : ℕ) → o ≤ room
       → OutputsReady table rows k (task .shape) room
-  searchable table-is k e room enough =
-      rw e
-      (outputs-ready n l rows task a t known
-      (record {
-        table-is = table-is;
-        gates-only = known-only;
-        few-signals = omega (arith, known-length, f .inputs-high, f .gates-high);
-        afresh = known-afresh;
-      }) known-length room enough)
+  searchable table-is k e room enough = rw e (outputs-ready n l rows task a table-is known known-length known-afresh known-below room enough)
 
   -- the same, of what the calls hand back
   module _ (now : List ℕ) (e : now ≡ filled) where

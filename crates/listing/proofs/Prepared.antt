@@ -22,6 +22,7 @@ use Rattle.search.specs.Search.{Verdict, clean, hazardous, search}
 use Rattle.visit.specs.Lent.{inputsKnown}
 use Rattle.core.specs.Core.{searchOf}
 use Rattle.outputs.specs.Outputs.{verdictByte, searchFrom}
+use Rattle.outputs.proofs.Ready.{output-is}
 use Rattle.core.proofs.Entry as entry
 use Rattle.core.proofs.Theorems.{pins-within, gates-within}
 use Rattle.report.specs.Text.{verdictLine}
@@ -61,7 +62,7 @@ module _ (n l rows : List ℕ) (task : Task) (a : Accepts true n l rows task) (c
         s = outputAt n o
 
         at : outputIn rows (signalsOf (task .shape)) o ≡ s
-        at = entry.output-is n l rows task a change o h
+        at = output-is n l rows task a o h
 
         below : s < inputsOf n + gatesOf n
         below = let f = card-formed in omega (arith, f .output-below o h, f .inputs-are, f .gates-are)

@@ -7,12 +7,11 @@ use mathlib.Core.Bool.{Bool, true, false}
 use mathlib.Core.Path.{_≡_, refl, sym, _∙_, ap}
 use mathlib.Core.List.{List, _++_}
 use mathlib.Core.Option.{Option}
-use lib.ListN.{length, drop}
+use lib.ListN.{drop}
 use Rattle.kung.specs.Class.{Class}
 use Rattle.kung.specs.Rule.{some}
 use Rattle.kung.specs.Sets.{bit, cleanSet}
 use Rattle.kung.specs.Tables.{tab}
-use Rattle.kung.specs.Lookup.{searchTable}
 use Rattle.circuit.specs.Circuit.{Card}
 use Rattle.netlist.specs.Netlist.{inputsOf, gatesOf, outputsOf, outputAt, cardOf}
 use Rattle.netlist.specs.Formed.{Formed}
@@ -31,8 +30,8 @@ use Rattle.search.specs.Pins.{sumBelow}
 use Rattle.visit.specs.Lent.{inputsKnown}
 use Rattle.core.specs.Core.{searchOf}
 use Rattle.outputs.specs.Outputs.{verdictByte, searchFrom, byteFrom, sumFrom}
-use Rattle.outputs.specs.Lent.{OutputsReady}
-use Rattle.core.proofs.Entry.{known-all, ready, output-is, outputs-ready, search-is}
+use Rattle.outputs.proofs.Ready.{output-is}
+use Rattle.core.proofs.Entry.{search-is}
 use Rattle.outputs.proofs.Outputs.{search-few}
 use Rattle.core.proofs.Theorems.{pins-within, gates-within}
 use Rattle.constants.specs.Constants.{isKnown, touched}
@@ -126,14 +125,10 @@ module _ (n l rows : List ℕ) (task : Task) (a : Accepts true n l rows task) (c
   abbrev signals : ℕ
   signals = signalsOf (task .shape)
 
-  pub searchable : {table : List ℕ} (room : ℕ) → table ≡ searchTable → outputs ≤ room → OutputsReady table rows known (task .shape) room
-  searchable room table-is enough =
-      outputs-ready n l rows task a c known (ready n l rows task a c table-is known is) (ap length is ∙ known-all n l rows task a c) room enough
-
   search-same : (out : ℕ) → out < outputs → searchFrom rows known signals out ≡ searchOf n l c out
   unfolding searchFrom searchOf
   search-same out h =
-      search-is n l rows task a c known is cleanSet _ ∙ ap (search _ cleanSet) (output-is n l rows task a c out h)
+      search-is n l rows task a c known is cleanSet _ ∙ ap (search _ cleanSet) (output-is n l rows task a out h)
 
   pub sums-are : (count : Answer → ℕ) → sumFrom count rows known signals outputs ≡ coreSum count n l c
   unfolding coreSum

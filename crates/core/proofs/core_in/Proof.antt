@@ -15,9 +15,10 @@ use Rattle.changes.proofs.Rooms.{in-room, accepts}
 use Rattle.search.specs.Search as search
 use Rattle.visit.specs.Found.{foundOf}
 use Rattle.visit.specs.Lent.{inputsKnown}
+use Rattle.outputs.proofs.Ready.{output-is, output-below, rows-long}
 use Rattle.core.specs.Core.{searchOf}
 use Rattle.core.specs.Codes.{guardedFound}
-use Rattle.core.proofs.Entry.{list-formed, card-formed, known-is, known-all, ready, output-is, output-below, rows-long, search-is, clean-set}
+use Rattle.core.proofs.Entry.{list-formed, card-formed, known-is, known-all, searchable, search-is, clean-set}
 use Rattle.core.proofs.Entry.{guard-is, refused-list, refused-change, refused-output, answers}
 use borrow.Author.Needs.{needs}
 use Rattle.core.proofs.core_in.Statement.{statement}
@@ -79,12 +80,12 @@ module _ (c : tie.After-output-of) where
   signal : c .output-of .result ≡ outputAt (netlist (bound filled)) output
   signal =
       let k = bound filled in
-      c .output-of .ensures ∙ output-is (netlist k) (list k) (rows k) (task k) (given k) (begun k .args .change) output inside
+      c .output-of .ensures ∙ output-is (netlist k) (list k) (rows k) (task k) (given k) output inside
 
   below : c .output-of .result < signalsOf (task (bound filled) .shape)
   below =
       let k = bound filled in
-      omega (arith, c .output-of .ensures, output-below (netlist k) (list k) (rows k) (task k) (given k) (begun k .args .change) output inside)
+      omega (arith, c .output-of .ensures, output-below (netlist k) (list k) (rows k) (task k) (given k) output inside)
 
 decode-requires : tie.Need-decode-requires
 decode-requires c κs = search needs
@@ -126,7 +127,7 @@ output-of-requires : tie.Need-output-of-requires
 output-of-requires c κs =
     let f = c .before .before .before .before in
     let k = bound f in
-    omega (arith, rows-long (netlist k) (list k) (rows k) (task k) (given k) (begun k .args .change), f .before .before .before .if2 .left)
+    omega (arith, rows-long (netlist k) (list k) (rows k) (task k) (given k), f .before .before .before .if2 .left)
 
 cast-s : tie.Need-cast-s
 cast-s c = search needs
@@ -144,7 +145,8 @@ find-requires c κs =
     let o = c .before .before .before in
     let f = filled o in
     let k = bound f in (
-      ready (netlist k) (list k) (rows k) (task k) (given k) (begun k .args .change) (f .before .before .search .ensures) _ (known f),
+      searchable (netlist k) (list k) (rows k) (task k) (given k) (begun k .args .change) (f .before .before .search .ensures) _ (known f) (task k .shape .outputs)
+          (omega arith) .ready,
       omega (arith, below o, all-known f),
     )
 

@@ -190,9 +190,9 @@ slice-aggregate-judge-outputs-3 c = search needs
 judge-outputs-requires : tie.Need-judge-outputs-requires Inv-loop μ-loop
 judge-outputs-requires c κs =
     let f = c .before .before .before .before .before in
-    let k = k f in
-    let r = entry.ready (netlist k) (list k) (rows k) (task k) (given k) (change k) (k .before .before .before .before .search .ensures) (lent f) (known f) in (
-      entry.outputs-ready (netlist k) (list k) (rows k) (task k) (given k) (change k) (lent f) r (all-known f) 64 (card k .outputs-high),
+    let k = k f in (
+      entry.searchable (netlist k) (list k) (rows k) (task k) (given k) (change k) (k .before .before .before .before .search .ensures) (lent f) (known f) 64
+          (card k .outputs-high),
       (omega (arith, all-known f, few k, k .loop .inv .1, f .before .before .before .classify .kept .1 .1 .1 .1 .1 .1 .0), omega (arith, k .loop .inv .2)),
     )
 

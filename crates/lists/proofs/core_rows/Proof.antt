@@ -13,13 +13,13 @@ use Rattle.changes.specs.declared.Task.{Task}
 use Rattle.changes.proofs.Accepted.{listed}
 use Rattle.visit.specs.Lent.{inputsKnown}
 use Rattle.core.specs.Lent.{NoneKnown}
-use Rattle.core.proofs.Entry.{part-back, none-again, known-is, known-all}
+use Rattle.core.proofs.Entry.{part-back, none-again, known-is, known-all, searchable}
 use Rattle.lists.specs.declared.Judged.the-variants.{Done}
 use Rattle.lists.specs.Methods.{coreSum, coreOf}
 use Rattle.lists.specs.Lent.{rowed}
 use Rattle.lists.specs.Left.{after, filled}
 use Rattle.lists.proofs.Rows.{Regular, lent-room, rowed-none, rowed-kept, rowed-room, rowed-next}
-use Rattle.lists.proofs.Changes.{Counted, counted-none, counted-next, card, core-regular, searched-high, searchable, sums-are, bytes-are}
+use Rattle.lists.proofs.Changes.{Counted, counted-none, counted-next, card, core-regular, searched-high, sums-are, bytes-are}
 use Rattle.lists.proofs.Left.{after-none, after-next}
 use borrow.Author.Needs.{needs}
 use Rattle.lists.proofs.core_rows.Statement.{statement}
@@ -169,7 +169,7 @@ search-outputs-requires c κs =
     let f = c .before .before .before .before .before in
     let l = at f in
     let s = begun l in
-    searchable (netlist s) (list s) (rows s) (task s) (given s) (l .loop .change) (lent f) (known f) _ (l .before .before .before .search .ensures)
+    searchable (netlist s) (list s) (rows s) (task s) (given s) (l .loop .change) (l .before .before .before .search .ensures) (lent f) (known f) _
     (lent-room (l .loop .change * outputs s) (outputs s) (l .loop .buffer) (room (inside f)))
 
 add-visited : tie.Need-add-visited Inv-loop μ-loop
