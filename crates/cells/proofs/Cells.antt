@@ -121,14 +121,6 @@ begun-next g b = go (ltb b 16) refl
     go true e = let less = ltb-true b 16 e in let small : code (unit (opAt g)) < 8 = code-small (unit (opAt g)) in omega arith
     go false e = refl
 
-pub begun-from : (g b : ℕ) → b < 128 → (16 ≤ begunFrom g b) × (begunFrom g b < 128)
-unfolding begunFrom
-begun-from g b h = go (ltb b 16) refl
-  where
-    go : (t : Bool) → ltb b 16 ≡ t → (16 ≤ cond t (16 + code (unit (opAt g))) b) × (cond t (16 + code (unit (opAt g))) b < 128)
-    go true e = let small : code (unit (opAt g)) < 8 = code-small (unit (opAt g)) in (omega arith, omega arith)
-    go false e = (ltb-false b 16 e, h)
-
 -- bytes of which none is visited
 pub fresh-known-of : (b : ℕ) → b ≤ 8 → knownOf b ≡ b
 fresh-known-of b h = go (ltb b 8) refl

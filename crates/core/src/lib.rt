@@ -74,7 +74,14 @@ fn core_in(
             inputs::fill_inputs(list, task, change, known);
             let signals = shape.inputs + shape.gates;
             let s = rows::output_of(rows, signals, output) as usize;
-            let found = find(&table, rows, &mut known[..signals], CLEAN_SET, s);
+            let found = find(
+                &table,
+                rows,
+                &mut known[..signals],
+                shape.inputs,
+                CLEAN_SET,
+                s,
+            );
             guard(shape.pins, found)
         }
     }

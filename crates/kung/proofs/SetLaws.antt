@@ -205,15 +205,6 @@ possible-left o inverted p =
     (λ c. has-setOf (λ c. some (λ k. has 255 k && same (join o p k) c) classes) (invertIf inverted c)
     ∙ (λ i. some (λ k. has-all k i && same-invert inverted (join o p k) c i) classes))
 
-pub possible-done : (o : Op) (inverted : Bool) (p : Class) → swapIf inverted (insert 0 p) ≡ possible o inverted p false
-unfolding swapIf possible some
-possible-done o inverted p =
-    setOf-ext _ _ (λ c. has-one p (invertIf inverted c) ∙ same-invert inverted p c ∙ always (same (invertIf inverted p) c))
-  where
-    always : (b : Bool) → b ≡ some (λ k. b) classes
-    always true = refl
-    always false = refl
-
 -- a class joined in once more than the set has it changes nothing
 module _ (o : Op) (f : Class → Bool) (k : Class) where
   kept : (g : Class → Bool) (x : Class) (ks : List Class)

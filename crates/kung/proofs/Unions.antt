@@ -2,16 +2,17 @@
 use mathlib.Core.Path.{_≡_, refl, sym, _∙_, ap, ap₂}
 use mathlib.Core.Bool.{Bool, true, false, cond, _&&_, _||_}
 use mathlib.Core.List.{List, [], _∷_}
-use Prim.Native.Nat.{ℕ, zero, suc, _+_, _*_, _/_, _%_, _^_, _<_}
+use Prim.Native.Nat.{ℕ, zero, suc, _+_, _*_, _/_, _%_, _^_, _≤_, _<_}
 use native.Mathlib.Omega.{arith}
 use lib.Bits.{bitOr, or-block, or-shr, or-mod, or-shifted-r}
 use lib.Dec.{eqb, ltb}
 use lib.ListN.{length, getD}
 use lib.Pow.{shr-shr}
-use Rattle.kung.specs.Class.{Class, c0, code, classes, ofCode, same}
+use Rattle.kung.specs.Class.{Class, c0, c1, R, F, S0, S1, D+, D-, code, classes, ofCode, same}
 use Rattle.kung.specs.Rule.{some}
-use Rattle.kung.specs.Operation.{Op, opAt, join}
-use Rattle.kung.specs.Sets.{bit, setOf, has, image}
+use Rattle.kung.specs.Operation.{Op, opAt, join, invertIf}
+use Rattle.kung.specs.Sets.{bit, setOf, has, image, possible}
+use Rattle.kung.specs.Members.{swapIf}
 use Rattle.kung.specs.Tables.{tab, preimage, reach, blockRule}
 use Rattle.kung.proofs.Listed.{agree}
 
@@ -139,3 +140,28 @@ set-of-has m h = agree (λ m. setOf (has m)) (λ m. m) 256 refl m h
 pub one-class : (j : ℕ) → j < 8 → 2 ^ j ≡ setOf (same (getD classes j c0))
 unfolding tab setOf
 one-class j h = agree (λ j. 2 ^ j) (λ j. setOf (same (getD classes j c0))) 8 refl j h
+
+bit-high : (b : Bool) → bit b ≤ 1
+bit-high true = omega arith
+bit-high false = omega arith
+
+-- a set is a byte
+set-small : (f : Class → Bool) → setOf f < 256
+unfolding setOf
+set-small f = omega (arith, bit-high (f c0), bit-high (f c1), bit-high (f R), bit-high (f F), bit-high (f S0), bit-high (f S1), bit-high (f D+), bit-high (f D-))
+
+pub swap-small : (b : Bool) (m : ℕ) → swapIf b m < 256
+unfolding swapIf
+swap-small b m = set-small (λ k. has m (invertIf b k))
+
+pub preimage-small : (o : Op) (p : Class) (m : ℕ) → preimage o p m < 256
+unfolding preimage
+preimage-small o p m = set-small (λ k. has m (join o p k))
+
+pub reach-small : (o : Op) (m : ℕ) → reach o m < 256
+unfolding reach
+reach-small o m = set-small (λ k. some (λ c. has m (join o k c)) classes)
+
+pub possible-small : (o : Op) (inverted : Bool) (p : Class) (left : Bool) → possible o inverted p left < 256
+unfolding possible
+possible-small o inverted p left = set-small (λ c. some (λ k. same (invertIf inverted (cond left (join o p k) p)) c) classes)

@@ -1,5 +1,6 @@
-// Kung's eight classes, and sets of them, as bytes.
+// Kung's eight classes, and sets of them, as numbers. The search works with machine words: bytes would be widened at each look-up.
 ghost use mathlib.Core.Path.{_≡_};
+ghost use Prim.Native.Nat.{_<_};
 ghost use Rattle.kung.specs.Class.{code, ofCode};
 ghost use Rattle.kung.specs.Rule.{invert};
 ghost use Rattle.kung.specs.Members.{insert, swapIf, onlyCode};
@@ -20,15 +21,17 @@ pub fn with_class(set: u8, class: u8) -> u8
 }
 
 // The set, or the set of its classes' inverses. Without a choice: which gates invert is no pattern that a processor could foresee.
-pub fn swapped(inverted: bool, set: u8) -> u8
+pub fn swapped(inverted: bool, set: usize) -> usize
+    requires { ⌜ set < 256 ⌝ }
     ensures { λ r. ⌜ r ≡ swapIf inverted set ⌝ }
 {
-    let places = inverted as u8;
+    let places = inverted as usize;
     ((set & 85) << places) | ((set & 170) >> places)
 }
 
 // The code of the set's only class, or 8.
-pub fn only_class(set: u8) -> u8
+pub fn only_class(set: usize) -> usize
+    requires { ⌜ set < 256 ⌝ }
     ensures { λ r. ⌜ r ≡ onlyCode set ⌝ }
 {
     if set == 0 {
@@ -36,7 +39,7 @@ pub fn only_class(set: u8) -> u8
     }
     let rest = set & (set - 1);
     if rest == 0 {
-        u8::trailing_zeros(set) as u8
+        usize::trailing_zeros(set) as usize
     } else {
         8
     }

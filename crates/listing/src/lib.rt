@@ -62,7 +62,7 @@ fn judge_outputs(
     let signals = shape.inputs + shape.gates;
     for output in 0..shape.outputs {
         let s = rows::output_of(rows, signals, output) as usize;
-        let found = visit::find(table, rows, known, CLEAN_SET, s);
+        let found = visit::find(table, rows, known, shape.inputs, CLEAN_SET, s);
         lines::keep_found(lines, 4 * output, classes[s], found);
     }
 }

@@ -5,7 +5,7 @@ use native.Mathlib.Decide.{decLt}
 use mathlib.Core.Path.{_≡_, _∙_, ap, ap₂}
 use mathlib.Core.Bool.{Bool}
 use mathlib.Core.List.{List}
-use lib.ListN.{length, getD, List·getD-eq-default}
+use lib.ListN.{length, List·getD-eq-default}
 use Rattle.kung.specs.Lookup.{searchTable}
 use Rattle.rows.specs.Rows.{outputIn}
 use Rattle.rows.specs.Lent.{GateRow}
@@ -16,7 +16,7 @@ use Rattle.changes.specs.declared.Task.{Task}
 use Rattle.changes.specs.Lent.{Accepts, signalsOf}
 use Rattle.changes.proofs.Accepted.{listed}
 use Rattle.visit.specs.Cells.{Afresh}
-use Rattle.visit.specs.Lent.{GatesOnly, SearchReady}
+use Rattle.visit.specs.Lent.{GatesOnly, SearchReady, Given}
 use Rattle.outputs.specs.Lent.{OutputsReady}
 
 module _ {repeated : Bool} (n l rows : List ℕ) (task : Task) (a : Accepts repeated n l rows task) where
@@ -44,7 +44,7 @@ module _ {repeated : Bool} (n l rows : List ℕ) (task : Task) (a : Accepts repe
 
   -- a byte for each signal, and each input's is a class
   module _ {table : List ℕ} (table-is : table ≡ searchTable) (known : List ℕ) (all : length known ≡ signals) (afresh : Afresh known)
-      (given : (i : ℕ) → i < inputs → getD known i 0 < 8) where
+      (given : Given inputs known) where
     gates-only : GatesOnly rows known
     gates-only s h = go (decLt s inputs) (decLt s signals)
       where
@@ -68,6 +68,7 @@ module _ {repeated : Bool} (n l rows : List ℕ) (task : Task) (a : Accepts repe
     outputs-ready room enough =
         record {
           ready = ready;
+          given = given;
           all-known = all;
           outputs-high = card .outputs-high;
           output-below = λ o h. omega (arith, output-below o h);

@@ -43,7 +43,7 @@ pub fn search_outputs(
     let mut pins: usize = 0;
     for output in 0..shape.outputs {
         let signal = rows::output_of(rows, signals, output) as usize;
-        let found = find(table, rows, known, CLEAN_SET, signal);
+        let found = find(table, rows, known, shape.inputs, CLEAN_SET, signal);
         let verdict = found.verdict;
         buffer[output] = byte_of(verdict);
         gates += found.gates;

@@ -1,11 +1,13 @@
 -- The answers of a search, as the code makes them. Assumes nothing.
 use Prim.Native.Nat.{ℕ, suc, _+_, _-_, _≤_, _<_}
 use native.Mathlib.Omega.{arith}
+use native.Mathlib.Decide.{decLt}
 use mathlib.Core.Path.{_≡_, refl, sym, _∙_, ap, ap₂}
 use mathlib.Core.List.{List, [], _∷_, _++_}
-use lib.ListN.{length, getD, take, drop, length-map, length-drop, length-replicate, take-append-drop, List·getD-map}
+use lib.ListN.{length, getD, take, drop, length-map, length-drop, length-replicate, List·getD-map}
 use lib.Seq.{ext-getD, getD-drop, getD-take, length-take-le}
 use borrow.Author.Tests.{lt-ltb}
+use borrow.Rule.Slice.PartMut.{midOf, postOf, putMid, post-is, mid-len, put-same}
 use Rattle.kung.specs.Class.{Class, code, ofCode}
 use Rattle.kung.specs.Operation.{opOf, unit}
 use Rattle.circuit.specs.Circuit.{Source, Falling}
@@ -16,13 +18,14 @@ use Rattle.search.proofs.Same.{search-any}
 use Rattle.cells.specs.Codes.{waitingOf, endingOf}
 use Rattle.cells.specs.Cells.{knownOf, knownIn}
 use Rattle.cells.proofs.Codes.{code-small}
-use Rattle.cells.proofs.Cells.{cell-new, fresh-known-of}
+use Rattle.cells.proofs.Cells.{cell-new, known-small, fresh-known-of}
 use Rattle.visit.specs.declared.Verdict.{Verdict}
 use Rattle.visit.specs.declared.Found.{Found}
 use Rattle.visit.specs.Source.{sourceFrom}
 use Rattle.visit.specs.Found.{verdictCode, foundOf}
 use Rattle.visit.specs.Codes.{verdictFrom}
 use Rattle.visit.specs.Cells.{cellsIn, Marks, Afresh}
+use Rattle.visit.specs.Lent.{Given}
 use Rattle.visit.specs.Visits.{endedOf, tallyOf, Takes}
 use Rattle.visit.proofs.Sources.{source-given, source-gate}
 use Rattle.visit.proofs.Cells.{cells-at, cells-length, fresh-marked}
@@ -94,26 +97,48 @@ module _ (rows bytes : List ℕ) (afresh : Afresh bytes) where
               pins = (p ∙ ap (λ t. getD t 1 0) c) i;
             }
 
-    -- what was known is left, as far as the search went, and above it nothing is written
-    pub known-left : knownIn (take (s + 1) exit) ++ drop (s + 1) exit ≡ bytes
-    known-left = ap₂ (λ l u. l ++ u) lower upper ∙ take-append-drop (s + 1) bytes
+    -- what was known is left, as far as the search went: below the first gate and above signal s nothing is written
+    pub known-left : (first : ℕ) → Given first bytes → first ≤ s + 1
+        → putMid first (s + 1 - first) exit (knownIn (midOf first (s + 1 - first) exit)) ≡ bytes
+    known-left first given inside = (λ i. below i ++ (middle i ++ above i)) ∙ put-same first (s + 1 - first) bytes
       where
         long : length exit ≡ length bytes
         long = sym (length-map exit knownOf) ∙ ap length (takes .known) ∙ length-map bytes knownOf
 
-        taken-length : length (take (s + 1) exit) ≡ s + 1
-        taken-length = length-take-le (s + 1) exit (omega (arith, long))
+        known-at : (t : ℕ) → knownOf (getD exit t 0) ≡ getD bytes t 0
+        known-at t = sym (List·getD-map knownOf exit t 0) ∙ ap (λ l. getD l t 0) (takes .known ∙ fresh-known)
 
-        lower : knownIn (take (s + 1) exit) ≡ take (s + 1) bytes
-        lower =
-            ext-getD 0 (knownIn (take (s + 1) exit)) (take (s + 1) bytes)
-            (length-map (take (s + 1) exit) knownOf ∙ taken-length ∙ sym (length-take-le (s + 1) bytes (omega arith)))
+        given-at : (t : ℕ) → t < first → getD exit t 0 ≡ getD bytes t 0
+        given-at t less = go (decLt (getD exit t 0) 8)
+          where
+            go : Dec (getD exit t 0 < 8) → getD exit t 0 ≡ getD bytes t 0
+            go (yes class) = sym (fresh-known-of (getD exit t 0) (omega arith)) ∙ known-at t
+            go (no none) = absurd (omega (arith, known-small (getD exit t 0) (omega arith), known-at t, given t less))
+
+        below : take first exit ≡ take first bytes
+        below =
+            let all : length (take first exit) ≡ first = length-take-le first exit (omega (arith, long)) in
+            ext-getD 0 (take first exit) (take first bytes) (all ∙ sym (length-take-le first bytes (omega arith)))
             (λ t less.
-            let inside : t < s + 1 = omega (arith, length-map (take (s + 1) exit) knownOf, taken-length) in
-            List·getD-map knownOf (take (s + 1) exit) t 0 ∙ ap knownOf (getD-take (s + 1) exit t 0 inside) ∙ sym (List·getD-map knownOf exit t 0)
-            ∙ ap (λ l. getD l t 0) (takes .known ∙ fresh-known) ∙ sym (getD-take (s + 1) bytes t 0 inside))
+            let low : t < first = omega (arith, all) in
+            getD-take first exit t 0 low ∙ given-at t low ∙ sym (getD-take first bytes t 0 low))
+
+        middle : knownIn (midOf first (s + 1 - first) exit) ≡ midOf first (s + 1 - first) bytes
+        middle =
+            let k = s + 1 - first in
+            let all : length (knownIn (midOf first k exit)) ≡ k = length-map (midOf first k exit) knownOf ∙ mid-len first (s + 1) exit (omega (arith, long)) in
+            ext-getD 0 (knownIn (midOf first k exit)) (midOf first k bytes) (all ∙ sym (mid-len first (s + 1) bytes (omega arith)))
+            (λ t less.
+            let low : t < k = omega (arith, all) in
+            List·getD-map knownOf (midOf first k exit) t 0
+            ∙ ap knownOf (getD-take k (drop first exit) t 0 low ∙ getD-drop first exit t 0)
+            ∙ known-at (first + t)
+            ∙ sym (getD-take k (drop first bytes) t 0 low ∙ getD-drop first bytes t 0))
 
         upper : drop (s + 1) exit ≡ drop (s + 1) bytes
         upper =
             ext-getD 0 (drop (s + 1) exit) (drop (s + 1) bytes) (length-drop (s + 1) exit ∙ ap (λ n. n - (s + 1)) long ∙ sym (length-drop (s + 1) bytes))
             (λ t less. getD-drop (s + 1) exit t 0 ∙ takes .above (s + 1 + t) (omega arith) ∙ sym (getD-drop (s + 1) bytes t 0))
+
+        above : postOf first (s + 1 - first) exit ≡ postOf first (s + 1 - first) bytes
+        above = post-is first (s + 1) exit inside ∙ upper ∙ sym (post-is first (s + 1) bytes inside)

@@ -115,20 +115,22 @@ pub record Arrived (rows known : List ℕ) (s w waiter : ℕ) (entry : List ℕ)
   is : (n : ℕ) → s ≤ n → leftOf rows known s w waiter n p₀ next₀ cells₀ ≡ wholeOf rows known s w waiter (suc n) entry
 
 -- on arrival
-module _ (rows : List ℕ) (s w waiter : ℕ) (bytes : List ℕ) (untold : toldIn (getD bytes s 0) ≡ 8) (marked : Marked rows s (getD bytes s 0)) (b : ℕ)
-    (begun : b ≡ begunFrom (gateIn (wordIn rows s)) (getD bytes s 0)) where
+module _ (rows : List ℕ) (s w waiter : ℕ) (bytes : List ℕ) (untold : toldIn (getD bytes s 0) ≡ 8) (marked : Marked rows s (getD bytes s 0)) where
   abbrev Byte : ℕ
   Byte = getD bytes s 0
+
+  abbrev Begun : ℕ
+  Begun = begunFrom (gateIn (wordIn rows s)) Byte
 
   searched : 8 ≤ getD (knownIn bytes) s 0
   searched = untold-searched bytes s untold
 
-  driver-is : driverOf (sourceFrom rows (knownIn bytes) s) (cellAt (cellsIn rows bytes) s) ≡ behind (ofCode b) (b / 8 - 2)
+  driver-is : driverOf (sourceFrom rows (knownIn bytes) s) (cellAt (cellsIn rows bytes) s) ≡ behind (ofCode Begun) (Begun / 8 - 2)
   unfolding begunFrom signalOf driverOf
   driver-is =
       driver-at rows bytes s
       ∙ ap (λ k. driverOf (signalOf rows s k) (cellIn Inverts₁ Byte)) (known-small Byte (untold-between Byte untold .0))
-      ∙ rw begun (go (ltb Byte 16) refl)
+      ∙ go (ltb Byte 16) refl
     where
       seen : (one : Option Class) (p : Class) (next : ℕ) → toldOf (toldOr one p next) ≡ 8 → toldOr one p next ≡ behind p next
       seen (some k) p next e = absurd (omega (arith, code-small k))
@@ -154,17 +156,17 @@ module _ (rows : List ℕ) (s w waiter : ℕ) (bytes : List ℕ) (untold : toldI
           in
           ap (driverOf (gate (rowKind rows s) (rowPins rows s))) cell ∙ seen (only _) _ _ eight
 
-  pub arrived : (cells : List ℕ) → cells ≡ put (cellsIn rows bytes) s (kept (ofCode b) (b / 8 - 2))
-      → Arrived rows (knownIn bytes) s w waiter (cellsIn rows bytes) (b % 8) (b / 8 - 2) cells
+  pub arrived : (p next : ℕ) → p ≡ Begun % 8 → next ≡ Begun / 8 - 2 → (cells : List ℕ) → cells ≡ put (cellsIn rows bytes) s (kept (ofCode p) next)
+      → Arrived rows (knownIn bytes) s w waiter (cellsIn rows bytes) p next cells
   unfolding takePin ofCode
-  arrived cells written =
+  arrived p next p-is next-is cells written =
       record {
         is = λ n h.
-            let e : b % 8 % 8 ≡ b % 8 = omega arith in
-            rw (e, written)
+            let e : p % 8 ≡ Begun % 8 = omega (arith, p-is) in
+            rw (written, e, next-is)
             (sym
             (ap (λ d. fetch (visit (sourceFrom rows (knownIn bytes)) (suc n)) s d w (waitingOf waiter) (cellsIn rows bytes)) driver-is
-            ∙ visit-gate (sourceFrom rows (knownIn bytes)) n s (rowKind rows s) (rowPins rows s) (ofCode b) (b / 8 - 2) w (waitingOf waiter)
+            ∙ visit-gate (sourceFrom rows (knownIn bytes)) n s (rowKind rows s) (rowPins rows s) (ofCode Begun) (Begun / 8 - 2) w (waitingOf waiter)
             (cellsIn rows bytes) (source-gate rows (knownIn bytes) s searched)));
       }
 

@@ -1,5 +1,5 @@
 -- What a search is lent.
-use Prim.Native.Nat.{ℕ, _≤_}
+use Prim.Native.Nat.{ℕ, _≤_, _<_}
 use mathlib.Core.Path.{_≡_}
 use mathlib.Core.List.{List, _++_}
 use lib.ListN.{length, getD, replicate}
@@ -23,3 +23,7 @@ pub record SearchReady (table rows known : List ℕ) : Type 0 where
   pub gates-only : GatesOnly rows known
   pub few-signals : length known ≤ 2304
   pub afresh : Afresh known
+
+-- the signals below `first` have their classes
+abbrev pub Given : (first : ℕ) → (known : List ℕ) → Type 0
+Given first known = (i : ℕ) → i < first → getD known i 0 < 8

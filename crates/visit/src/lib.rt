@@ -12,7 +12,7 @@ ghost use Rattle.cells.specs.Codes.{waitingOf};
 ghost use Rattle.cells.specs.Cells.{knownIn, toldIn};
 ghost use Rattle.visit.specs.Source.{sourceFrom};
 ghost use Rattle.visit.specs.Found.{verdictCode, foundOf};
-ghost use Rattle.visit.specs.Lent.{SearchReady};
+ghost use Rattle.visit.specs.Lent.{SearchReady, Given};
 ghost use Rattle.visit.specs.Codes.{verdictFrom};
 ghost use Rattle.visit.specs.Visits.{Lends, Takes};
 use cells::NOBODY;
@@ -57,37 +57,37 @@ pub struct Counts {
 }
 
 // A gate's operation, and 2 more where it inverts.
-fn gate_in(word: u16) -> u8
+fn gate_in(word: u16) -> usize
     ensures { λ r. ⌜ r ≡ gateIn word ⌝ }
 {
-    (word % 4) as u8
+    (word % 4) as usize
 }
 
 // Its number of pins.
-fn count_in(word: u16) -> u8
+fn count_in(word: u16) -> usize
     requires { ⌜ countIn word ≤ 8 ⌝ }
     ensures { λ r. ⌜ r ≡ countIn word ⌝ }
 {
-    (word / 4) as u8
+    (word / 4) as usize
 }
 
 // Pin `next` of signal s's gate.
-fn pin_at(rows: &[u16], s: usize, next: u8) -> usize
+fn pin_at(rows: &[u16], s: usize, next: usize) -> usize
     requires { ⌜ (9 * s + 9 ≤ length (now rows)) × (next < 9) ⌝ }
     ensures { λ r. ⌜ r ≡ pinIn (now (rows .entry)) s next ⌝ }
 {
-    pin_of(rows, s, next as usize) as usize
+    pin_of(rows, s, next) as usize
 }
 
 // A gate that waits with p, as a number below NOBODY.
-fn waiter_of(gate: u8, p: u8) -> u8
+fn waiter_of(gate: usize, p: usize) -> usize
     ensures { λ r. ⌜ (waitingOf r ≡ waits (opAt gate) (ofCode p)) × (r < 16) ⌝ }
 {
     8 * (gate % 2) + p % 8
 }
 
 // What the gate behind a pin is to reach, before the waiting gate's p is joined: `left` where pins are left after that one.
-fn goal_of(left: bool, reach: u8, want: u8) -> u8
+fn goal_of(left: bool, reach: usize, want: usize) -> usize
     ensures { λ r. ⌜ r ≡ cond left reach want ⌝ }
 {
     if left { reach } else { want }
@@ -100,29 +100,28 @@ fn visit(
     cells: &mut [u8],
     tally: &mut [u16; 2],
     s: usize,
-    wanted: u8,
-    waiter: u8,
-) -> u8
+    wanted: usize,
+    waiter: usize,
+) -> usize
     requires { ⌜ SearchReady (now table) (now rows) (knownIn (now cells)) ⌝ }
-    requires { ⌜ Lends (now rows) s (now cells) (now tally) × (toldIn (getD (now cells) s 0) ≡ 8) × (waiter < 17) ⌝ }
+    requires { ⌜ Lends (now rows) s (now cells) (now tally) × (toldIn (getD (now cells) s 0) ≡ 8) × (waiter < 17) × (wanted < 256) ⌝ }
     ensures { λ r. ⌜ Takes (now (rows .entry)) s wanted waiter (now (cells .entry)) (now (cells .exit)) (now (tally .exit)) r ⌝ }
 {
     let word = word_of(rows, s);
     let gate = gate_in(word);
     let count = count_in(word);
     let begun = arrive(cells, tally, s, gate);
-    let mut p = begun % 8;
-    let mut next = begun / 8 - 2;
-    let first = next;
+    let mut p = begun.p;
+    let mut next = begun.next;
     let want = swapped(gate / 2 == 1, wanted);
     let reach = reach_of(table, gate, want);
     let stop = stop_bits(table, waiter, gate, reach);
     while next < count {
         if has_class(stop, p) {
-            let set = possible_set(table, gate, gate / 2 == 1, p, true);
+            let set = possible_set(table, gate, gate / 2 == 1, p);
             let class = only_class(set);
             let answer = check_set(table, set, class, wanted, waiter);
-            leave(cells, tally, s, mark_of(class, p, next), next - first);
+            leave(cells, tally, s, mark_of(class, p, next), next);
             return answer;
         }
         let x = pin_at(rows, s, next);
@@ -130,14 +129,14 @@ fn visit(
         let goal = goal_of(next < count, reach, want);
         let ending = take(table, rows, cells, tally, x, waiter_of(gate, p), goal);
         if STOPPED <= ending {
-            leave(cells, tally, s, open_mark(p, next), next - first);
+            leave(cells, tally, s, open_mark(p, next), next);
             return STOPPED;
         }
         p = ending;
     }
     let class = class_of(gate, p);
     let answer = check_known(table, class, wanted, waiter);
-    leave(cells, tally, s, known_mark(class, next), next - first);
+    leave(cells, tally, s, known_mark(class, next), next);
     answer
 }
 
@@ -148,16 +147,16 @@ fn take(
     cells: &mut [u8],
     tally: &mut [u16; 2],
     x: usize,
-    waiter: u8,
-    goal: u8,
-) -> u8
+    waiter: usize,
+    goal: usize,
+) -> usize
     requires { ⌜ SearchReady (now table) (now rows) (knownIn (now cells)) ⌝ }
-    requires { ⌜ Lends (now rows) x (now cells) (now tally) × (waiter < 16) ⌝ }
+    requires { ⌜ Lends (now rows) x (now cells) (now tally) × (waiter < 16) × (goal < 256) ⌝ }
     ensures { λ r. ⌜ Takes (now (rows .entry)) x (preimage (opAt (waiter / 8)) (ofCode waiter) goal) waiter (now (cells .entry)) (now (cells .exit)) (now (tally .exit)) r ⌝ }
 {
     let byte = cells[x];
     if is_told(byte) {
-        return joined_by(table, waiter, byte);
+        return joined_by(table, waiter, byte as usize);
     }
     let wanted = preimage_of(table, waiter, goal);
     visit(table, rows, cells, tally, x, wanted, waiter)
@@ -170,44 +169,54 @@ fn wide(x: u16) -> usize
 }
 
 // A class that is known without a visit, judged against the wanted set.
-fn judge(wanted: u8, class: u8) -> Verdict
+fn judge(wanted: usize, class: u8) -> Verdict
     requires { ⌜ class < 8 ⌝ }
     ensures { λ r. ⌜ r ≡ verdictCode (judged wanted (ofCode class)) ⌝ }
 {
-    if has_class(wanted, class) {
+    if has_class(wanted, class as usize) {
         Verdict::Clean { class: class }
     } else {
         Verdict::Hazardous
     }
 }
 
-fn verdict_of(ending: u8) -> Verdict
+fn verdict_of(ending: usize) -> Verdict
     ensures { λ r. ⌜ r ≡ verdictFrom ending ⌝ }
 {
     if ending < STOPPED {
-        Verdict::Clean { class: ending }
+        Verdict::Clean {
+            class: ending as u8,
+        }
     } else {
         Verdict::Hazardous
     }
 }
 
-// The search of signal s. Each call starts afresh, and leaves the lent bytes as they were.
-pub fn find(table: &[u8; 4888], rows: &[u16], known: &mut [u8], wanted: u8, s: usize) -> Found
-    requires { ⌜ SearchReady (now table) (now rows) (now known) × (s < length (now known)) ⌝ }
+// The search of signal s. Each call starts afresh, and leaves the lent bytes as they were. The signals below `first` are inputs, whose bytes no
+// visit writes.
+pub fn find(
+    table: &[u8; 4888],
+    rows: &[u16],
+    known: &mut [u8],
+    first: usize,
+    wanted: u8,
+    s: usize,
+) -> Found
+    requires { ⌜ SearchReady (now table) (now rows) (now known) × Given first (now known) × (s < length (now known)) ⌝ }
     ensures found { λ r. ⌜ r ≡ foundOf (search (sourceFrom (now (rows .entry)) (now (known .entry))) wanted s) ⌝ }
     ensures known { λ r. ⌜ now (known .exit) ≡ now (known .entry) ⌝ }
 {
     let class = known[s];
     if class < 8 {
         return Found {
-            verdict: judge(wanted, class),
+            verdict: judge(wanted as usize, class),
             gates: 0,
             pins: 0,
         };
     }
     let mut tally: [u16; 2] = [0; 2];
-    let ending = visit(table, rows, known, &mut tally, s, wanted, NOBODY);
-    reset(&mut known[..s + 1]);
+    let ending = visit(table, rows, known, &mut tally, s, wanted as usize, NOBODY);
+    reset(&mut known[first..s + 1]);
     Found {
         verdict: verdict_of(ending),
         gates: wide(tally[0]),

@@ -12,6 +12,9 @@ use Rattle.cells.proofs.same_result_of.Tie as tie
 image-of-requires : tie.Need-image-of-requires
 image-of-requires c κs = search needs
 
+cast-only-class : tie.Need-cast-only-class
+cast-only-class c = search needs
+
 only-class-requires : tie.Need-only-class-requires
 only-class-requires c κs = search needs
 
@@ -27,4 +30,4 @@ unfolding waitingOf sameResult
 returns-2 c = rw (le-ltb (c .before .args .waiter) 16 (c .if1 .left))
 
 pub same-result-of-spec : {M : Type 1} → statement M
-same-result-of-spec = tie.close (tie.spec image-of-requires only-class-requires returns returns-2)
+same-result-of-spec = tie.close (tie.spec image-of-requires cast-only-class only-class-requires returns returns-2)

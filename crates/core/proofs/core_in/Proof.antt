@@ -144,11 +144,9 @@ find-requires : tie.Need-find-requires
 find-requires c κs =
     let o = c .before .before .before in
     let f = filled o in
-    let k = bound f in (
-      searchable (netlist k) (list k) (rows k) (task k) (given k) (begun k .args .change) (f .before .before .search .ensures) _ (known f) (task k .shape .outputs)
-          (omega arith) .ready,
-      omega (arith, below o, all-known f),
-    )
+    let k = bound f in
+    let r = searchable (netlist k) (list k) (rows k) (task k) (given k) (begun k .args .change) (f .before .before .search .ensures) _ (known f) (task k .shape .outputs) (omega arith) in
+    (r .ready, r .given, omega (arith, below o, all-known f))
 
 guard-requires : tie.Need-guard-requires
 guard-requires c κs = search needs

@@ -9,7 +9,7 @@ use Rattle.search.specs.Search as spec
 use Rattle.visit.specs.declared.Found.{Found}
 use Rattle.visit.specs.Source.{sourceFrom}
 use Rattle.visit.specs.Found.{foundOf}
-use Rattle.visit.specs.Lent.{SearchReady}
+use Rattle.visit.specs.Lent.{SearchReady, Given}
 use Rattle.outputs.proofs.Outputs.{found-is, found-few}
 use Rattle.listing.specs.Lent.{Lined}
 use Rattle.listing.proofs.Lines.{lined-more}
@@ -18,11 +18,11 @@ use Rattle.listing.proofs.judge_outputs.Statement.{statement}
 use Rattle.listing.proofs.judge_outputs.Tie as tie
 
 abbrev Inv-loop : tie.InvT-loop
-Inv-loop table rows known₀ classes lines₀ signals output₀ output-end known lines output =
+Inv-loop table rows shape known₀ classes lines₀ signals output₀ output-end known lines output =
     (output ≤ output-end) × (length lines ≡ length lines₀) × (known ≡ known₀) × Lined rows known₀ classes signals lines output
 
 abbrev μ-loop : tie.MeasureT-loop
-μ-loop table rows known₀ classes lines₀ signals output₀ output-end known lines output = output-end - output
+μ-loop table rows shape known₀ classes lines₀ signals output₀ output-end known lines output = output-end - output
 
 -- where the function starts
 abbrev begun : tie.At-loop Inv-loop μ-loop → tie.Start Inv-loop μ-loop
@@ -51,8 +51,11 @@ find-requires c κs =
     let o = c .before in
     let l = o .before .before in
     let a = begun l .args in
-    let same = l .loop .inv .2 in
-    (subst (SearchReady (a .table .now) (a .rows .now)) (sym same) (begun l .pre .0 .ready), omega (arith, below o, ap length same))
+    let same = l .loop .inv .2 in (
+      subst (SearchReady (a .table .now) (a .rows .now)) (sym same) (begun l .pre .0 .ready),
+      subst (Given (a .shape .inputs)) (sym same) (begun l .pre .0 .given),
+      omega (arith, below o, ap length same),
+    )
 
 -- what is found, by what is known at first
 found : (c : tie.After-find Inv-loop μ-loop) → let o = c .before .before in

@@ -14,8 +14,8 @@ element-copy-out-result c = search needs
 
 returns : tie.Need-returns
 returns c =
-    ap₂ (λ t k. getD t k 0) (c .before .before .pre) (c .before .place .ensures)
-    ∙ image-at (c .before .before .args .operation) (c .before .before .args .p) (c .before .before .args .set) (search needs)
+    ap₂ (λ t k. getD t k 0) (c .before .before .pre .0) (c .before .place .ensures)
+    ∙ image-at (c .before .before .args .operation) (c .before .before .args .p) (c .before .before .args .set) (c .before .before .pre .1)
 
 pub image-of-spec : {M : Type 1} → statement M
 image-of-spec = tie.close (tie.spec place-requires element-copy-out-result returns)

@@ -10,7 +10,7 @@ use Rattle.search.specs.Pins.{sumBelow}
 use Rattle.search.specs.Search as spec
 use Rattle.visit.specs.Source.{sourceFrom}
 use Rattle.visit.specs.Found.{foundOf}
-use Rattle.visit.specs.Lent.{SearchReady}
+use Rattle.visit.specs.Lent.{SearchReady, Given}
 use Rattle.outputs.specs.Outputs.{byteFrom, sumFrom}
 use Rattle.outputs.proofs.Outputs.{found-is, found-few, found-next, found-byte}
 use borrow.Author.Needs.{needs}
@@ -18,13 +18,13 @@ use Rattle.outputs.proofs.search_outputs.Statement.{statement}
 use Rattle.outputs.proofs.search_outputs.Tie as tie
 
 abbrev Inv-loop : tie.InvT-loop
-Inv-loop table rows known₀ buffer₀ signals gates₀ pins₀ output₀ output-end known buffer gates pins output =
+Inv-loop table rows shape known₀ buffer₀ signals gates₀ pins₀ output₀ output-end known buffer gates pins output =
     (output ≤ output-end) × (gates ≡ sumFrom (λ a. a .gates) rows known₀ signals output) × (pins ≡ sumFrom (λ a. a .pins) rows known₀ signals output)
     × (gates ≤ 18432 * output) × (pins ≤ 18432 * output) × (buffer ≡ written buffer₀ 0 (byteFrom rows known₀ signals) output)
     × (known ≡ known₀)
 
 abbrev μ-loop : tie.MeasureT-loop
-μ-loop table rows known₀ buffer₀ signals gates₀ pins₀ output₀ output-end known buffer gates pins output = output-end - output
+μ-loop table rows shape known₀ buffer₀ signals gates₀ pins₀ output₀ output-end known buffer gates pins output = output-end - output
 
 -- where the function starts
 abbrev begun : tie.At-loop Inv-loop μ-loop → tie.Start Inv-loop μ-loop
@@ -54,8 +54,11 @@ find-requires c κs =
     let a = begun l .args in
     let p = begun l .pre in
     let same = l .loop .inv .6 in
-    let below = p .output-below (l .loop .output) (o .before .loop-test .taken) in
-    (subst (SearchReady (a .table .now) (a .rows .now)) (sym same) (p .ready), omega (arith, o .output-of .ensures, ap length same))
+    let below = p .output-below (l .loop .output) (o .before .loop-test .taken) in (
+      subst (SearchReady (a .table .now) (a .rows .now)) (sym same) (p .ready),
+      subst (Given (a .shape .inputs)) (sym same) (p .given),
+      omega (arith, o .output-of .ensures, ap length same),
+    )
 
 byte-of-requires : tie.Need-byte-of-requires Inv-loop μ-loop
 byte-of-requires c κs = search needs

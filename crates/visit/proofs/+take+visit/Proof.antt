@@ -4,7 +4,7 @@
 use Prim.Native.Nat.{ℕ, _+_, _*_, _-_, _/_, _%_, _≤_, _<_}
 use native.Mathlib.Omega.{arith}
 use mathlib.Core.Path.{_≡_, sym, _∙_, ap, subst}
-use mathlib.Core.Bool.{true, false, cond}
+use mathlib.Core.Bool.{Bool, true, false, cond}
 use mathlib.Core.List.{List}
 use mathlib.Core.Option.{Option}
 use lib.Dec.{eqb, ltb}
@@ -20,6 +20,7 @@ use Rattle.kung.specs.Members.{swapIf}
 use Rattle.kung.specs.Tables.{preimage, reach}
 use Rattle.kung.specs.Lookup.{joinedBy, stopSet}
 use Rattle.kung.proofs.Finite.{ofCode-code}
+use Rattle.kung.proofs.Unions.{swap-small, preimage-small, reach-small, possible-small}
 use Rattle.rows.specs.Rows.{countIn, gateIn, invertsIn, wordIn, rowKind, rowPins}
 use Rattle.rows.specs.Lent.{GateRow}
 use Rattle.search.specs.Search.{Cell, kept, put, only, Outcome, checks, waits}
@@ -35,7 +36,7 @@ use Rattle.visit.proofs.Sources.{gate-operation, inverts-is, pin-is, fa
 use Rattle.visit.proofs.Totals.{gates-few}
 use Rattle.visit.proofs.Cells.{cells-length}
 use Rattle.visit.proofs.Visits.{Rest, takes-told, rest-first, rest-ends, rest-next, rest-stopped, Ends, ends-small, ends-put}
-use Rattle.visit.proofs.Turns.{Held, Begun, begins, own-put, put-put, held-length, held-pins, held-after, marks-after, marked-cell, marked-told, marked-large, leaves}
+use Rattle.visit.proofs.Turns.{Held, Begun, begins, pins-counted, put-put, held-length, held-pins, held-after, marks-after, marked-cell, marked-told, marked-large, leaves}
 use Rattle.visit.proofs.take.Reads as take
 use Rattle.visit.proofs.take.Kinds as take-kinds
 use Rattle.visit.proofs.+take+visit.Lts-take as take-lts
@@ -150,6 +151,9 @@ take-slice-read-byte t c = c .before .before .before .pre .1 .1 .0 .there
 take-is-told-requires : (t : ℕ) → take-lts.Need-is-told-requires (take-calls t) (take-at t) take.Post
 take-is-told-requires t c κs = search needs
 
+take-cast-joined-by : (t : ℕ) → take-lts.Need-cast-joined-by (take-calls t) (take-at t) take.Post
+take-cast-joined-by t c = let s = c .before .before .before .before .before in omega (arith, s .pre .1 .1 .0 .small (s .args .x))
+
 take-joined-by-requires : (t : ℕ) → take-lts.Need-joined-by-requires (take-calls t) (take-at t) take.Post
 take-joined-by-requires t c κs =
     let s = c .before .before .before .before .before in
@@ -166,7 +170,7 @@ take-returns t c =
 take-preimage-of-requires : (t : ℕ) → take-lts.Need-preimage-of-requires (take-calls t) (take-at t) take.Post
 take-preimage-of-requires t c κs =
     let s = c .before .before .before .before .before in
-    (s .pre .1 .0 .table-is, s .pre .1 .1 .1)
+    (s .pre .1 .0 .table-is, s .pre .1 .1 .1, s .pre .1 .1 .2)
 
 take-visit-requires : (t : ℕ) → take-lts.Need-visit-requires (take-calls t) (take-at t) take.Post
 take-visit-requires t c κs =
@@ -177,7 +181,10 @@ take-visit-requires t c κs =
     let b = getD (a .cells .now) (a .x) 0 in
     let nothing : toldIn b ≡ 8 = omega (arith, told-small b, ltb-false (toldIn b) 8 (sym (d .is-told .ensures) ∙ e .if1 .left)) in
     let row = s .pre .1 .0 .gates-only (a .x) (untold-searched (a .cells .now) (a .x) nothing) in
-    (omega (arith, s .pre .0, row .count-eight), (s .pre .1 .0, (s .pre .1 .1 .0, nothing, omega (arith, s .pre .1 .1 .1))))
+    let few = preimage-small (opAt (a .waiter / 8)) (ofCode (a .waiter)) (a .goal) in (
+      omega (arith, s .pre .0, row .count-eight),
+      (s .pre .1 .0, (s .pre .1 .1 .0, nothing, omega (arith, s .pre .1 .1 .1), omega (arith, few, c .before .before .preimage-of .ensures))),
+    )
 
 take-same-length : (t : ℕ) → take-lts.Need-same-length (take-calls t) (take-at t) take.Post
 take-same-length t c = search needs
@@ -192,12 +199,17 @@ take-returns-2 t c =
     (q .preimage-of .ensures) (v .visit .ensures)
 
 abbrev visit-Inv-loop : visit-lts.InvT-loop
-visit-Inv-loop table rows cells₀ tally₀ s wanted waiter word gate count begun p₀ next₀ first want reach stop cells tally p next =
-    Held rows s begun cells₀ cells tally × Marks rows cells s × (first ≤ next) × (next ≤ 13) × (p < 8)
-    × Rest rows (knownIn cells₀) s wanted waiter (begun % 8) (begun / 8 - 2) (cellsIn rows cells₀) p next (put (cellsIn rows cells) s (kept (ofCode p) next))
+visit-Inv-loop table rows cells₀ tally₀ s wanted waiter word gate count p₀ next₀ want reach stop cells tally p next =
+    Held rows s cells₀ cells tally × Marks rows cells s × (next₀ ≤ next) × (next ≤ 13) × (p < 8)
+    × Rest rows (knownIn cells₀) s wanted waiter p₀ next₀ (put (cellsIn rows cells₀) s (kept (ofCode p₀) next₀)) p next
+    (put (cellsIn rows cells) s (kept (ofCode p) next))
 
 abbrev visit-μ-loop : visit-lts.MeasureT-loop
-visit-μ-loop table rows cells₀ tally₀ s wanted waiter word gate count begun p₀ next₀ first want reach stop cells tally p next = count - next
+visit-μ-loop table rows cells₀ tally₀ s wanted waiter word gate count p₀ next₀ want reach stop cells tally p next = count - next
+
+goal-small : {reach want : ℕ} (left : Bool) → reach < 256 → want < 256 → cond left reach want < 256
+goal-small true r w = r
+goal-small false r w = w
 
 -- the gate that is visited
 visit-row : (t : ℕ) (c : visit-lts.Start (visit-calls t) (visit-at t) visit.Post visit-Inv-loop visit-μ-loop) → GateRow (c .args .rows .now) (c .args .s)
@@ -216,10 +228,14 @@ visit-swapped-requires : (t : ℕ) → visit-lts.Need-swapped-requires (visit-ca
 visit-swapped-requires t c κs = search needs
 
 visit-reach-of-requires : (t : ℕ) → visit-lts.Need-reach-of-requires (visit-calls t) (visit-at t) visit.Post visit-Inv-loop visit-μ-loop
-visit-reach-of-requires t c κs = search needs
+visit-reach-of-requires t c κs =
+    let s = c .before .before .before .before .before .before .before .before .before .before .before in
+    (s .pre .1 .0 .table-is, rw (c .swapped .ensures) (swap-small _ _))
 
 visit-stop-bits-requires : (t : ℕ) → visit-lts.Need-stop-bits-requires (visit-calls t) (visit-at t) visit.Post visit-Inv-loop visit-μ-loop
-visit-stop-bits-requires t c κs = search needs
+visit-stop-bits-requires t c κs =
+    let s = c .before .before .before .before .before .before .before .before .before .before .before .before in
+    (s .pre .1 .0 .table-is, s .pre .1 .1 .2, omega (arith, c .before .before .before .before .before .before .before .before .gate-in .ensures), rw (c .reach-of .ensures) (reach-small _ _))
 
 visit-arrive-requires : (t : ℕ) → visit-lts.Need-arrive-requires (visit-calls t) (visit-at t) visit.Post visit-Inv-loop visit-μ-loop
 visit-arrive-requires t c κs =
@@ -228,6 +244,7 @@ visit-arrive-requires t c κs =
     let cells = cellsIn (s .args .rows .now) (s .args .cells .now) in (
       l .there,
       omega (arith, ap (λ t. getD t 0 0) (l .tallied), gates-few cells, cells-length (s .args .rows .now) (s .args .cells .now), l .few),
+      pins-counted (s .args .rows .now) (s .args .s) (s .args .cells .now) (s .args .tally .now) l (s .pre .1 .1 .1),
     )
 
 -- on arrival
@@ -244,35 +261,36 @@ module _ (t : ℕ) (c : visit-lts.After-arrive (visit-calls t) (visit-at t) visi
   gate-is : gated .gate-in .result ≡ gateIn (wordIn (entered .args .rows .now) (entered .args .s))
   gate-is = gated .gate-in .ensures ∙ ap gateIn word-is
 
-  byte-is : c .arrive .result ≡ begunFrom (gateIn (wordIn (entered .args .rows .now) (entered .args .s))) (getD (entered .args .cells .now) (entered .args .s) 0)
-  byte-is = c .arrive .ensures .0 ∙ ap (λ g. begunFrom g (getD (entered .args .cells .now) (entered .args .s) 0)) gate-is
+  -- its byte in the definition
+  abbrev Byte : ℕ
+  Byte = begunFrom (gateIn (wordIn (entered .args .rows .now) (entered .args .s))) (getD (entered .args .cells .now) (entered .args .s) 0)
+
+  p-is : c .arrive .result .p ≡ Byte % 8
+  p-is = c .arrive .ensures .0 ∙ ap (λ g. begunFrom g (getD (entered .args .cells .now) (entered .args .s) 0) % 8) gate-is
+
+  next-is : c .arrive .result .next ≡ Byte / 8 - 2
+  next-is = c .arrive .ensures .1 .0 ∙ ap (λ g. begunFrom g (getD (entered .args .cells .now) (entered .args .s) 0) / 8 - 2) gate-is
 
   begun-at : Begun (entered .args .rows .now) (entered .args .s) (entered .args .wanted) (entered .args .waiter) (entered .args .cells .now)
-      (c .arrive .result) (c .arrive .last .0) (c .arrive .last .1 .0)
+      (c .arrive .result .p) (c .arrive .result .next) (c .arrive .last .0) (c .arrive .last .1 .0)
   begun-at =
       let a = entered .args in
-      begins (a .rows .now) (a .s) (a .wanted) (a .waiter) (a .cells .now) (a .tally .now) (entered .pre .1 .1 .0) (entered .pre .1 .1 .1) (c .arrive .result)
-      byte-is (c .arrive .last .0) (c .arrive .last .1 .0) (c .arrive .ensures .1 .0) (c .arrive .ensures .1 .1)
-
-visit-sub-next : (t : ℕ) → visit-lts.Need-sub-next (visit-calls t) (visit-at t) visit.Post visit-Inv-loop visit-μ-loop
-visit-sub-next t c = omega (arith, begun-at t (c .before .before) .large)
+      begins (a .rows .now) (a .s) (a .wanted) (a .waiter) (a .cells .now) (a .tally .now) (entered .pre .1 .1 .0) (entered .pre .1 .1 .1)
+      (c .arrive .result .p) (c .arrive .result .next) p-is next-is (c .arrive .last .0) (c .arrive .last .1 .0) (c .arrive .ensures .1 .1 .0)
+      (c .arrive .ensures .1 .1 .1)
 
 visit-loop-holds : (t : ℕ) → visit-lts.Need-loop-holds (visit-calls t) (visit-at t) visit.Post visit-Inv-loop visit-μ-loop
 visit-loop-holds t c =
     let v = c .before .before .before .before .before in
     let a = entered t v .args in
-    let b = v .arrive .result in
     let rows = a .rows .now in
-    let at = begun-at t v in
-    let cells = cellsIn rows (v .arrive .last .0) in (
+    let at = begun-at t v in (
       at .held,
       at .marked,
       omega arith,
-      omega (arith, at .less),
-      omega arith,
-      subst (Rest rows (knownIn (v .arrive .last .0)) (a .s) (a .wanted) (a .waiter) (b % 8) (b / 8 - 2) cells (b % 8) (b / 8 - 2))
-          (own-put rows (a .s) b (v .arrive .last .0) (at .held .own) (at .large) (at .less))
-          (rest-first rows (knownIn (v .arrive .last .0)) (a .s) (a .wanted) (a .waiter) (b % 8) (b / 8 - 2) cells),
+      at .few,
+      at .small,
+      rest-first rows (knownIn (v .arrive .last .0)) (a .s) (a .wanted) (a .waiter) (v .arrive .result .p) (v .arrive .result .next) _,
     )
 
 -- in the loop
@@ -295,11 +313,19 @@ module _ (t : ℕ) (c : visit-lts.At-loop (visit-calls t) (visit-at t) visit.Pos
   abbrev Entry : List ℕ
   Entry = begin .args .cells .now
 
-  abbrev Byte : ℕ
-  Byte = here .arrive .result
+  -- where the visit began
+  abbrev P₀ : ℕ
+  P₀ = here .arrive .result .p
+
+  abbrev Next₀ : ℕ
+  Next₀ = here .arrive .result .next
 
   abbrev Gate : ℕ
   Gate = gated t here .gate-in .result
+
+  -- the definition's cells on arrival
+  abbrev Began : List ℕ
+  Began = put (cellsIn Rows (here .arrive .last .0)) Signal (kept (ofCode P₀) Next₀)
 
   row : GateRow Rows Signal
   row = visit-row t begin
@@ -319,6 +345,12 @@ module _ (t : ℕ) (c : visit-lts.At-loop (visit-calls t) (visit-at t) visit.Pos
   reach-is : c .before .before .reach-of .result ≡ reach (opAt Gate) (swapIf (eqb (Gate / 2) 1) (begin .args .wanted))
   reach-is = c .before .before .reach-of .ensures ∙ ap (reach (opAt Gate)) want-is
 
+  want-few : c .before .before .before .swapped .result < 256
+  want-few = omega (arith, want-is, swap-small (eqb (Gate / 2) 1) (begin .args .wanted))
+
+  reach-few : c .before .before .reach-of .result < 256
+  reach-few = omega (arith, reach-is, reach-small (opAt Gate) (swapIf (eqb (Gate / 2) 1) (begin .args .wanted)))
+
   stop-is : c .before .stop-bits .result
       ≡ stopSet (begin .args .waiter) Gate (reach (opAt Gate) (swapIf (eqb (Gate / 2) 1) (begin .args .wanted)))
   stop-is = c .before .stop-bits .ensures ∙ ap (stopSet (begin .args .waiter) Gate) reach-is
@@ -330,34 +362,34 @@ module _ (t : ℕ) (c : visit-lts.At-loop (visit-calls t) (visit-at t) visit.Pos
   abbrev Checked : Option Outcome
   Checked = checks Set (begin .args .wanted) (waitingOf (begin .args .waiter))
 
-  rest-is : Rest Rows (knownIn Entry) Signal (begin .args .wanted) (begin .args .waiter) (Byte % 8) (Byte / 8 - 2) (cellsIn Rows (here .arrive .last .0))
+  rest-is : Rest Rows (knownIn Entry) Signal (begin .args .wanted) (begin .args .waiter) P₀ Next₀ Began
       (c .loop .p) (c .loop .next) (put (cellsIn Rows (c .loop .cells)) Signal (kept (ofCode (c .loop .p)) (c .loop .next)))
   rest-is =
       subst
       (λ k.
-      Rest Rows k Signal (begin .args .wanted) (begin .args .waiter) (Byte % 8) (Byte / 8 - 2) (cellsIn Rows (here .arrive .last .0)) (c .loop .p)
+      Rest Rows k Signal (begin .args .wanted) (begin .args .waiter) P₀ Next₀ Began (c .loop .p)
       (c .loop .next) (put (cellsIn Rows (c .loop .cells)) Signal (kept (ofCode (c .loop .p)) (c .loop .next))))
       (begun-at t here .known) (c .loop .inv .5)
 
   long : length (c .loop .cells) ≡ length Entry
-  long = held-length Rows Signal Byte (here .arrive .last .0) (c .loop .cells) (c .loop .tally) (c .loop .inv .0) ∙ here .arrive .kept .0
+  long = held-length Rows Signal (here .arrive .last .0) (c .loop .cells) (c .loop .tally) (c .loop .inv .0) ∙ here .arrive .kept .0
 
   room : getD (c .loop .tally) 1 0 ≤ 36864
-  room = held-pins Rows Signal Byte (here .arrive .last .0) (c .loop .cells) (c .loop .tally) (c .loop .inv .0)
+  room = held-pins Rows Signal (here .arrive .last .0) (c .loop .cells) (c .loop .tally) (c .loop .inv .0)
 
   -- the checks end the visit, and the gate's byte is written
   checked : (class mark r : ℕ) (exit tally : List ℕ) → class ≡ codeOr (only Set) → mark ≡ markOf class (c .loop .p) (c .loop .next) → mark < 256
       → exit ≡ set (c .loop .cells) Signal mark
-      → tally ≡ set (c .loop .tally) 1 (getD (c .loop .tally) 1 0 + (c .loop .next - (Byte / 8 - 2))) → ended Checked ≡ true
+      → tally ≡ set (c .loop .tally) 1 (getD (c .loop .tally) 1 0 + c .loop .next) → ended Checked ≡ true
       → r ≡ checkOf (waitingOf (begin .args .waiter)) Checked
       → Takes Rows Signal (begin .args .wanted) (begin .args .waiter) Entry exit tally r
   checked class mark r exit tally found is-mark fits left counted over h =
       let a = begin .args in
       let l = c .loop in
-      leaves Rows Signal (a .wanted) (a .waiter) Byte Entry (here .arrive .last .0) (here .arrive .last .1 .0) (l .cells) (l .tally) (begun-at t here)
+      leaves Rows Signal (a .wanted) (a .waiter) P₀ Next₀ Entry (here .arrive .last .0) (here .arrive .last .1 .0) (l .cells) (l .tally) (begun-at t here)
       (l .inv .0) (l .p) (l .next) mark (marked-cell Rows Signal (l .p) (l .next) class mark found (l .inv .3) is-mark)
-      (marked-large Rows Signal (l .p) (l .next) class mark found (l .inv .3) is-mark) fits (l .inv .2) exit tally left counted r
-      (rest-ends Rows (knownIn Entry) Signal (a .wanted) (a .waiter) (Byte % 8) (Byte / 8 - 2) (cellsIn Rows (here .arrive .last .0)) (l .p) (l .next)
+      (marked-large Rows Signal (l .p) (l .next) class mark found (l .inv .3) is-mark) fits exit tally left counted r
+      (rest-ends Rows (knownIn Entry) Signal (a .wanted) (a .waiter) P₀ Next₀ Began (l .p) (l .next)
       (put (cellsIn Rows (l .cells)) Signal (kept (ofCode (l .p)) (l .next))) rest-is (cellsIn Rows Entry) (begun-at t here .starts) over r h)
       (λ small. (l .inv .1, marked-told Rows Signal (l .p) (l .next) class mark found (l .inv .3) is-mark))
 
@@ -386,23 +418,21 @@ visit-possible-set-requires : (t : ℕ) → visit-lts.Need-possible-set-requires
 visit-possible-set-requires t c κs = search needs
 
 visit-only-class-requires : (t : ℕ) → visit-lts.Need-only-class-requires (visit-calls t) (visit-at t) visit.Post visit-Inv-loop visit-μ-loop
-visit-only-class-requires t c κs = search needs
+visit-only-class-requires t c κs = rw (c .possible-set .ensures) (possible-small _ _ _ true)
 
 visit-mark-of-requires : (t : ℕ) → visit-lts.Need-mark-of-requires (visit-calls t) (visit-at t) visit.Post visit-Inv-loop visit-μ-loop
 visit-mark-of-requires t c κs = c .before .before .before .before .before .before .before .before .loop .inv .3
 
-visit-sub-leave : (t : ℕ) → visit-lts.Need-sub-leave (visit-calls t) (visit-at t) visit.Post visit-Inv-loop visit-μ-loop
-visit-sub-leave t c = c .before .before .before .before .before .before .before .before .before .loop .inv .2
-
 visit-leave-requires : (t : ℕ) → visit-lts.Need-leave-requires (visit-calls t) (visit-at t) visit.Post visit-Inv-loop visit-μ-loop
 visit-leave-requires t c κs =
     let l = c .before .before .before .before .before .before .before .before .before in
-    (l .loop .inv .0 .there, room t l)
+    (l .loop .inv .0 .there, room t l, l .loop .inv .3)
 
 visit-check-set-requires : (t : ℕ) → visit-lts.Need-check-set-requires (visit-calls t) (visit-at t) visit.Post visit-Inv-loop visit-μ-loop
 visit-check-set-requires t c κs =
     let s = begin t (c .before .before .before .before .before) in
-    (s .pre .1 .0 .table-is, s .pre .1 .1 .2, c .only-class .ensures ∙ only-code (c .before .possible-set .result) (omega arith))
+    let few : c .before .possible-set .result < 256 = rw (c .before .possible-set .ensures) (possible-small _ _ _ true) in
+    (s .pre .1 .0 .table-is, few, s .pre .1 .1 .2, c .only-class .ensures ∙ only-code (c .before .possible-set .result) few)
 
 visit-same-length : (t : ℕ) → visit-lts.Need-same-length (visit-calls t) (visit-at t) visit.Post visit-Inv-loop visit-μ-loop
 visit-same-length t c =
@@ -423,7 +453,7 @@ visit-returns t c =
     q .possible-set .ensures ∙ (λ i. possible (operation t l i) (inversion t l i) (ofCode (l .loop .p)) (sym (more t h) i))
     in
     checked t l (o .only-class .result) (m .mark-of .result) (n .check-set .result) (v .leave .last .0) (v .leave .last .1 .0)
-    (o .only-class .ensures ∙ only-code (q .possible-set .result) (omega arith) ∙ ap (λ m. codeOr (only m)) set-is) (m .mark-of .ensures) (omega arith)
+    (o .only-class .ensures ∙ only-code (q .possible-set .result) (rw (q .possible-set .ensures) (possible-small _ _ _ true)) ∙ ap (λ m. codeOr (only m)) set-is) (m .mark-of .ensures) (omega arith)
     (v .leave .ensures .0) (v .leave .ensures .1) (sym (over-is t h) ∙ q .before .if1 .taken)
     (n .check-set .ensures ∙ ap (λ m. checkOf (waitingOf (a .waiter)) (checks m (a .wanted) (waitingOf (a .waiter)))) set-is)
 
@@ -496,11 +526,12 @@ visit-take-requires t c κs =
       marked = λ u h. l .loop .inv .1 u (omega (arith, below t c));
     }
     in
-    let next-is : Byte t l / 8 - 2 ≡ getD (Entry t l) (Signal t l) 0 / 8 - 2 =
-    ap (λ b. b / 8 - 2) (byte-is t (here t l)) ∙ begun-next (gateIn (wordIn (Rows t l) (Signal t l))) (getD (Entry t l) (Signal t l) 0)
-    in (
-      omega (arith, s .pre .0, below t c, more-pins t (tested t c), l .loop .inv .2, next-is),
-      (subst (SearchReady (s .args .table .now) (Rows t l)) (sym (known-is t c)) (s .pre .1 .0), (lends, c .waiter-of .ensures .1)),
+    let pins : Next₀ t l ≡ getD (Entry t l) (Signal t l) 0 / 8 - 2 = here t l .arrive .ensures .1 .0 ∙ begun-next (Gate t l) (getD (Entry t l) (Signal t l) 0) in (
+      omega (arith, s .pre .0, below t c, more-pins t (tested t c), l .loop .inv .2, pins),
+      (
+        subst (SearchReady (s .args .table .now) (Rows t l)) (sym (known-is t c)) (s .pre .1 .0),
+        (lends, c .waiter-of .ensures .1, rw (aimed t c .goal-of .ensures) (goal-small (ltb (l .loop .next + 1) (counting t l .count-in .result)) (reach-few t l) (want-few t l))),
+      ),
     )
 
 -- the pin was taken
@@ -521,9 +552,9 @@ module _ (t : ℕ) (c : visit-lts.After-take (visit-calls t) (visit-at t) visit.
   abbrev Held-cell : Cell
   Held-cell = kept (ofCode (looped .loop .p)) (looped .loop .next + 1)
 
-  held : Held (Rows t looped) (Signal t looped) (Byte t looped) (here t looped .arrive .last .0) After Tally
+  held : Held (Rows t looped) (Signal t looped) (here t looped .arrive .last .0) After Tally
   held =
-      held-after (Rows t looped) (Signal t looped) (Byte t looped) (here t looped .arrive .last .0) (looped .loop .cells) (looped .loop .tally)
+      held-after (Rows t looped) (Signal t looped) (here t looped .arrive .last .0) (looped .loop .cells) (looped .loop .tally)
       (pinned t at-pin .pin-at .result) (Wanted t at-pin) (at-pin .waiter-of .result) After Tally (c .take .result) (below t at-pin) (c .take .ensures)
       (looped .loop .inv .0)
 
@@ -559,20 +590,20 @@ module _ (t : ℕ) (c : visit-lts.After-take (visit-calls t) (visit-at t) visit.
   stopped-by stop =
       let l = looped in
       let a = begin t l .args in
-      rest-stopped (Rows t l) (knownIn (Entry t l)) (Signal t l) (a .wanted) (a .waiter) _ _ (cellsIn (Rows t l) (here t l .arrive .last .0)) (l .loop .p)
+      rest-stopped (Rows t l) (knownIn (Entry t l)) (Signal t l) (a .wanted) (a .waiter) _ _ (Began t l) (l .loop .p)
       (l .loop .next) _ (rest-is t l) going-on (more-pins t (tested t at-pin)) (pinned t at-pin .pin-at .result) (Wanted t at-pin) (at-pin .waiter-of .result)
       _ _ (c .take .result) (on-pin t at-pin) (below t at-pin) (wanted-is t at-pin) waiting-is
       (sym (put-put (cellsIn (Rows t l) (l .loop .cells)) (Signal t l) (ofCode (l .loop .p)) (ofCode (l .loop .p)) (l .loop .next) (l .loop .next + 1)))
       taking stop (cellsIn (Rows t l) (Entry t l)) (begun-at t (here t l) .starts)
 
   next-by : c .take .result < 8
-      → Rest (Rows t looped) (knownIn (Entry t looped)) (Signal t looped) (begin t looped .args .wanted) (begin t looped .args .waiter) (Byte t looped % 8)
-      (Byte t looped / 8 - 2) (cellsIn (Rows t looped) (here t looped .arrive .last .0)) (c .take .result) (looped .loop .next + 1)
+      → Rest (Rows t looped) (knownIn (Entry t looped)) (Signal t looped) (begin t looped .args .wanted) (begin t looped .args .waiter) (P₀ t looped)
+      (Next₀ t looped) (Began t looped) (c .take .result) (looped .loop .next + 1)
       (put (put (cellsIn (Rows t looped) After) (Signal t looped) Held-cell) (Signal t looped) (kept (ofCode (c .take .result)) (looped .loop .next + 1)))
   next-by =
       let l = looped in
       let a = begin t l .args in
-      rest-next (Rows t l) (knownIn (Entry t l)) (Signal t l) (a .wanted) (a .waiter) _ _ (cellsIn (Rows t l) (here t l .arrive .last .0)) (l .loop .p)
+      rest-next (Rows t l) (knownIn (Entry t l)) (Signal t l) (a .wanted) (a .waiter) _ _ (Began t l) (l .loop .p)
       (l .loop .next) _ (rest-is t l) going-on (more-pins t (tested t at-pin)) (pinned t at-pin .pin-at .result) (Wanted t at-pin) (at-pin .waiter-of .result)
       _ _ (c .take .result) (on-pin t at-pin) (below t at-pin) (wanted-is t at-pin) waiting-is
       (sym (put-put (cellsIn (Rows t l) (l .loop .cells)) (Signal t l) (ofCode (l .loop .p)) (ofCode (l .loop .p)) (l .loop .next) (l .loop .next + 1)))
@@ -583,14 +614,15 @@ visit-open-mark-requires t c κs =
     let w = c .before .before .before .before .before .before in
     (loops t w .loop .inv .4, omega (arith, more-pins t (tested t w), eight t w))
 
-visit-sub-leave-2 : (t : ℕ) → visit-lts.Need-sub-leave-2 (visit-calls t) (visit-at t) visit.Post visit-Inv-loop visit-μ-loop
-visit-sub-leave-2 t c = omega (arith, loops t (c .before .before .before .before .before .before .before) .loop .inv .2)
-
 visit-leave-requires-2 : (t : ℕ) → visit-lts.Need-leave-requires-2 (visit-calls t) (visit-at t) visit.Post visit-Inv-loop visit-μ-loop
 visit-leave-requires-2 t c κs =
     let k = c .before .before .before .before .before .before in
     let l = looped t k in
-    (held t k .there, held-pins (Rows t l) (Signal t l) (Byte t l) (here t l .arrive .last .0) (After t k) (Tally t k) (held t k))
+    let w = k .before in (
+      held t k .there,
+      held-pins (Rows t l) (Signal t l) (here t l .arrive .last .0) (After t k) (Tally t k) (held t k),
+      omega (arith, more-pins t (tested t w), eight t w),
+    )
 
 visit-same-length-2 : (t : ℕ) → visit-lts.Need-same-length-2 (visit-calls t) (visit-at t) visit.Post visit-Inv-loop visit-μ-loop
 visit-same-length-2 t c =
@@ -608,11 +640,11 @@ visit-returns-2 t c =
     let a = begin t l .args in
     let w = k .before in
     let few : l .loop .next + 1 ≤ 13 = omega (arith, more-pins t (tested t w), eight t w) in
-    leaves (Rows t l) (Signal t l) (a .wanted) (a .waiter) (Byte t l) (Entry t l) (here t l .arrive .last .0) (here t l .arrive .last .1 .0) (After t k)
+    leaves (Rows t l) (Signal t l) (a .wanted) (a .waiter) (P₀ t l) (Next₀ t l) (Entry t l) (here t l .arrive .last .0) (here t l .arrive .last .1 .0) (After t k)
     (Tally t k) (begun-at t (here t l)) (held t k) (l .loop .p) (l .loop .next + 1) (m .open-mark .result)
     (ap (cellIn (invertsIn (wordIn (Rows t l) (Signal t l)))) (m .open-mark .ensures)
     ∙ open-cell (invertsIn (wordIn (Rows t l) (Signal t l))) (l .loop .p) (l .loop .next + 1) few)
-    (omega (arith, m .open-mark .ensures)) (omega arith) (omega (arith, l .loop .inv .2)) (v .leave2 .last .0) (v .leave2 .last .1 .0) (v .leave2 .ensures .0)
+    (omega (arith, m .open-mark .ensures)) (omega arith) (v .leave2 .last .0) (v .leave2 .last .1 .0) (v .leave2 .ensures .0)
     (v .leave2 .ensures .1) 8 (stopped-by t k (omega (arith, small t k, e .if2 .taken))) (λ h. absurd (omega arith))
 
 visit-loop-less : (t : ℕ) → visit-lts.Need-loop-less (visit-calls t) (visit-at t) visit.Post visit-Inv-loop visit-μ-loop
@@ -628,19 +660,19 @@ visit-loop-again t c =
     let a = begin t l .args in
     let less : k .take .result < 8 = omega (arith, small t k, c .if2 .left) in (
       held t k,
-      marks-after (Rows t l) (Signal t l) (Byte t l) (here t l .arrive .last .0) (l .loop .cells) (l .loop .tally) (pinned t w .pin-at .result) (Wanted t w)
+      marks-after (Rows t l) (Signal t l) (here t l .arrive .last .0) (l .loop .cells) (l .loop .tally) (pinned t w .pin-at .result) (Wanted t w)
           (w .waiter-of .result) (After t k) (Tally t k) (k .take .result) (below t w) (k .take .ensures) less (l .loop .inv .1),
       omega (arith, l .loop .inv .2),
       omega (arith, more-pins t (tested t w), eight t w),
       less,
       subst
           (λ known.
-          Rest (Rows t l) known (Signal t l) (a .wanted) (a .waiter) (Byte t l % 8) (Byte t l / 8 - 2) (cellsIn (Rows t l) (here t l .arrive .last .0))
+          Rest (Rows t l) known (Signal t l) (a .wanted) (a .waiter) (P₀ t l) (Next₀ t l) (Began t l)
           (k .take .result) (l .loop .next + 1) (put (cellsIn (Rows t l) (After t k)) (Signal t l) (kept (ofCode (k .take .result)) (l .loop .next + 1))))
           (sym (begun-at t (here t l) .known))
           (subst
-          (Rest (Rows t l) (knownIn (Entry t l)) (Signal t l) (a .wanted) (a .waiter) (Byte t l % 8) (Byte t l / 8 - 2)
-          (cellsIn (Rows t l) (here t l .arrive .last .0)) (k .take .result) (l .loop .next + 1))
+          (Rest (Rows t l) (knownIn (Entry t l)) (Signal t l) (a .wanted) (a .waiter) (P₀ t l) (Next₀ t l)
+          (Began t l) (k .take .result) (l .loop .next + 1))
           (put-put (cellsIn (Rows t l) (After t k)) (Signal t l) (ofCode (l .loop .p)) (ofCode (k .take .result)) (l .loop .next + 1) (l .loop .next + 1))
           (next-by t k less)),
     )
@@ -655,13 +687,10 @@ visit-known-mark-requires t c κs =
     let l = k .before .before in
     (omega (arith, k .class-of .ensures, code-small (invertIf (eqb (Gate t l / 2) 1) (ofCode (l .loop .p)))), l .loop .inv .3)
 
-visit-sub-leave-3 : (t : ℕ) → visit-lts.Need-sub-leave-3 (visit-calls t) (visit-at t) visit.Post visit-Inv-loop visit-μ-loop
-visit-sub-leave-3 t c = c .before .before .before .before .before .before .loop .inv .2
-
 visit-leave-requires-3 : (t : ℕ) → visit-lts.Need-leave-requires-3 (visit-calls t) (visit-at t) visit.Post visit-Inv-loop visit-μ-loop
 visit-leave-requires-3 t c κs =
     let l = c .before .before .before .before .before .before in
-    (l .loop .inv .0 .there, room t l)
+    (l .loop .inv .0 .there, room t l, l .loop .inv .3)
 
 visit-check-known-requires : (t : ℕ) → visit-lts.Need-check-known-requires (visit-calls t) (visit-at t) visit.Post visit-Inv-loop visit-μ-loop
 visit-check-known-requires t c κs =
@@ -699,6 +728,7 @@ pub +take+visit-spec : {M : Type 1} → statement M
     take.Post
     (take-slice-read-byte t)
     (take-is-told-requires t)
+    (take-cast-joined-by t)
     (take-joined-by-requires t)
     (take-returns t)
     (take-preimage-of-requires t)
@@ -714,7 +744,6 @@ pub +take+visit-spec : {M : Type 1} → statement M
     (visit-gate-in-requires t)
     (visit-count-in-requires t)
     (visit-arrive-requires t)
-    (visit-sub-next t)
     (visit-swapped-requires t)
     (visit-reach-of-requires t)
     (visit-stop-bits-requires t)
@@ -724,7 +753,6 @@ pub +take+visit-spec : {M : Type 1} → statement M
     (visit-only-class-requires t)
     (visit-check-set-requires t)
     (visit-mark-of-requires t)
-    (visit-sub-leave t)
     (visit-leave-requires t)
     (visit-same-length t)
     (visit-returns t)
@@ -734,7 +762,6 @@ pub +take+visit-spec : {M : Type 1} → statement M
     (visit-waiter-of-requires t)
     (visit-take-requires t)
     (visit-open-mark-requires t)
-    (visit-sub-leave-2 t)
     (visit-leave-requires-2 t)
     (visit-same-length-2 t)
     (visit-returns-2 t)
@@ -743,7 +770,6 @@ pub +take+visit-spec : {M : Type 1} → statement M
     (visit-class-of-requires t)
     (visit-check-known-requires t)
     (visit-known-mark-requires t)
-    (visit-sub-leave-3 t)
     (visit-leave-requires-3 t)
     (visit-same-length-3 t)
     (visit-returns-3 t)

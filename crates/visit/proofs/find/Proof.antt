@@ -1,16 +1,17 @@
 -- `visit::find` meets its contract. Assumes nothing.
-use Prim.Native.Nat.{suc, _+_}
+use Prim.Native.Nat.{suc, _+_, _-_, _≤_, _<_}
 use native.Mathlib.Omega.{arith}
+use native.Mathlib.Decide.{decLt}
 use mathlib.Core.Path.{_≡_, refl, sym, _∙_, ap, subst}
-use mathlib.Core.List.{[], _∷_, _++_}
-use lib.ListN.{getD, drop}
-use lib.Seq.{length-take-le}
+use mathlib.Core.List.{[], _∷_}
+use lib.ListN.{getD}
 use Rattle.cells.specs.Cells.{toldIn}
 use Rattle.visit.specs.Lent.{SearchReady}
 use Rattle.visit.specs.Visits.{Lends}
 use Rattle.visit.proofs.Sources.{falling}
 use Rattle.visit.proofs.Searches.{search-given, fresh-known, fresh-tally, fresh-marks, search-visited, known-left}
 use borrow.Author.Needs.{needs}
+use borrow.Rule.Slice.PartMut.{putMid}
 use Rattle.visit.proofs.find.Statement.{statement}
 use Rattle.visit.proofs.find.Tie as tie
 
@@ -34,26 +35,33 @@ visit-requires c κs =
     let eight : getD (a .known .now) (a .s) 0 ≡ 8 = omega (arith, afresh (a .s), e .if1 .left) in
     let lends : Lends (a .rows .now) (a .s) (a .known .now) (0 ∷ 0 ∷ []) =
     record {
-      there = s .pre .1;
+      there = s .pre .2;
       few = s .pre .0 .few-signals;
       small = λ t. omega (arith, afresh t);
       tallied = fresh-tally (a .rows .now) (a .known .now) afresh;
       marked = fresh-marks (a .rows .now) (a .known .now) afresh (suc (a .s));
     }
     in
-    (subst (SearchReady (a .table .now) (a .rows .now)) (sym (fresh-known (a .rows .now) (a .known .now) afresh)) (s .pre .0), (lends, ap toldIn eight, omega arith))
+    (subst (SearchReady (a .table .now) (a .rows .now)) (sym (fresh-known (a .rows .now) (a .known .now) afresh)) (s .pre .0), (lends, ap toldIn eight, omega arith, omega arith))
 
 add-reset : tie.Need-add-reset
 add-reset c = search needs
 
-slice-relend-prefix-reset : tie.Need-slice-relend-prefix-reset
-slice-relend-prefix-reset c = search needs
+sub-reset : tie.Need-sub-reset
+sub-reset c =
+    let e = c .before .before .before .before .before in
+    let s = e .before .before .before .before in
+    go s (decLt (s .args .s) (s .args .first)) (e .if1 .left)
+  where
+    go : (s : tie.Start) → Dec (s .args .s < s .args .first) → 8 ≤ getD (s .args .known .now) (s .args .s) 0 → s .args .first ≤ s .args .s + 1
+    go s (yes input) h = absurd (omega (arith, s .pre .1 (s .args .s) input))
+    go s (no above) h = omega arith
 
-slice-aggregate-reset : tie.Need-slice-aggregate-reset
-slice-aggregate-reset c =
-    let v = c .before .before .before in
-    let s = v .before .before .before .before .before .before .before in
-    sym (length-take-le (s .args .s + 1) (v .visit .last .1 .1 .0) (omega (arith, v .visit .kept .1 .1 .0, s .pre .1)))
+part-reset-start : tie.Need-part-reset-start
+part-reset-start c = sub-reset c
+
+part-reset-end : tie.Need-part-reset-end
+part-reset-end c = search needs
 
 reset-requires : tie.Need-reset-requires
 reset-requires c κs = search needs
@@ -86,10 +94,11 @@ returns-2 c =
     let exit = v .visit .last .1 .1 .0 in
     let tally = v .visit .last .1 .1 .1 .0 in
     let falls = falling (a .rows .now) (a .known .now) (s .pre .0 .gates-only) in (
-      search-visited (a .rows .now) (a .known .now) (s .pre .0 .afresh) (a .wanted) (a .s) falls (s .pre .1) (e .if1 .left) (v .visit .result) exit tally
+      search-visited (a .rows .now) (a .known .now) (s .pre .0 .afresh) (a .wanted) (a .s) falls (s .pre .2) (e .if1 .left) (v .visit .result) exit tally
           (v .visit .ensures) _ (c .before .before .verdict-of .ensures) (c .before .wide .ensures) (c .wide2 .ensures),
-      ap (λ l. l ++ drop (a .s + 1) exit) (q .reset .ensures)
-          ∙ known-left (a .rows .now) (a .known .now) (s .pre .0 .afresh) (a .wanted) (a .s) falls (s .pre .1) (e .if1 .left) (v .visit .result) exit tally (v .visit .ensures),
+      ap (putMid (a .first) (a .s + 1 - a .first) exit) (q .reset .ensures)
+          ∙ known-left (a .rows .now) (a .known .now) (s .pre .0 .afresh) (a .wanted) (a .s) falls (s .pre .2) (e .if1 .left) (v .visit .result) exit tally
+          (v .visit .ensures) (a .first) (s .pre .1) (sub-reset (q .before .before)),
     )
 
 pub find-spec : {M : Type 1} → statement M
@@ -101,8 +110,9 @@ find-spec =
     returns
     visit-requires
     add-reset
-    slice-relend-prefix-reset
-    slice-aggregate-reset
+    sub-reset
+    part-reset-start
+    part-reset-end
     reset-requires
     verdict-of-requires
     array-read-wide
