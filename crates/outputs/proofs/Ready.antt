@@ -16,7 +16,7 @@ use Rattle.changes.specs.declared.Task.{Task}
 use Rattle.changes.specs.Lent.{Accepts, signalsOf}
 use Rattle.changes.proofs.Accepted.{listed}
 use Rattle.visit.specs.Cells.{Afresh}
-use Rattle.visit.specs.Lent.{GatesOnly, SearchReady, Given}
+use Rattle.visit.specs.Lent.{GatesOnly, SearchReady, InputsGiven}
 use Rattle.outputs.specs.Lent.{OutputsReady}
 
 module _ {repeated : Bool} (n l rows : List ℕ) (task : Task) (a : Accepts repeated n l rows task) where
@@ -44,7 +44,7 @@ module _ {repeated : Bool} (n l rows : List ℕ) (task : Task) (a : Accepts repe
 
   -- a byte for each signal, and each input's is a class
   module _ {table : List ℕ} (table-is : table ≡ searchTable) (known : List ℕ) (all : length known ≡ signals) (afresh : Afresh known)
-      (given : Given inputs known) where
+      (given : InputsGiven inputs known) where
     gates-only : GatesOnly rows known
     gates-only s h = go (decLt s inputs) (decLt s signals)
       where

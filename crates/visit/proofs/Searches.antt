@@ -25,7 +25,7 @@ use Rattle.visit.specs.Source.{sourceFrom}
 use Rattle.visit.specs.Found.{verdictCode, foundOf}
 use Rattle.visit.specs.Codes.{verdictFrom}
 use Rattle.visit.specs.Cells.{cellsIn, Marks, Afresh}
-use Rattle.visit.specs.Lent.{Given}
+use Rattle.visit.specs.Lent.{InputsGiven}
 use Rattle.visit.specs.Visits.{endedOf, tallyOf, Takes}
 use Rattle.visit.proofs.Sources.{source-given, source-gate}
 use Rattle.visit.proofs.Cells.{cells-at, cells-length, fresh-marked}
@@ -98,7 +98,7 @@ module _ (rows bytes : List ℕ) (afresh : Afresh bytes) where
             }
 
     -- what was known is left, as far as the search went: below the first gate and above signal s nothing is written
-    pub known-left : (first : ℕ) → Given first bytes → first ≤ s + 1
+    pub known-left : (first : ℕ) → InputsGiven first bytes → first ≤ s + 1
         → putMid first (s + 1 - first) exit (knownIn (midOf first (s + 1 - first) exit)) ≡ bytes
     known-left first given inside = (λ i. below i ++ (middle i ++ above i)) ∙ put-same first (s + 1 - first) bytes
       where

@@ -24,6 +24,6 @@ pub record SearchReady (table rows known : List ℕ) : Type 0 where
   pub few-signals : length known ≤ 2304
   pub afresh : Afresh known
 
--- the signals below `first` have their classes
-abbrev pub Given : (first : ℕ) → (known : List ℕ) → Type 0
-Given first known = (i : ℕ) → i < first → getD known i 0 < 8
+-- the signals below `first`, the inputs, have their classes
+abbrev pub InputsGiven : (first : ℕ) → (known : List ℕ) → Type 0
+InputsGiven first known = (i : ℕ) → i < first → getD known i 0 < 8

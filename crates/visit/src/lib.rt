@@ -12,7 +12,7 @@ ghost use Rattle.cells.specs.Codes.{waitingOf};
 ghost use Rattle.cells.specs.Cells.{knownIn, toldIn};
 ghost use Rattle.visit.specs.Source.{sourceFrom};
 ghost use Rattle.visit.specs.Found.{verdictCode, foundOf};
-ghost use Rattle.visit.specs.Lent.{SearchReady, Given};
+ghost use Rattle.visit.specs.Lent.{SearchReady, InputsGiven};
 ghost use Rattle.visit.specs.Codes.{verdictFrom};
 ghost use Rattle.visit.specs.Visits.{Lends, Takes};
 use cells::NOBODY;
@@ -202,7 +202,7 @@ pub fn find(
     wanted: u8,
     s: usize,
 ) -> Found
-    requires { ⌜ SearchReady (now table) (now rows) (now known) × Given first (now known) × (s < length (now known)) ⌝ }
+    requires { ⌜ SearchReady (now table) (now rows) (now known) × InputsGiven first (now known) × (s < length (now known)) ⌝ }
     ensures found { λ r. ⌜ r ≡ foundOf (search (sourceFrom (now (rows .entry)) (now (known .entry))) wanted s) ⌝ }
     ensures known { λ r. ⌜ now (known .exit) ≡ now (known .entry) ⌝ }
 {

@@ -9,7 +9,7 @@ use Rattle.search.specs.Search as spec
 use Rattle.visit.specs.declared.Found.{Found}
 use Rattle.visit.specs.Source.{sourceFrom}
 use Rattle.visit.specs.Found.{foundOf}
-use Rattle.visit.specs.Lent.{SearchReady, Given}
+use Rattle.visit.specs.Lent.{SearchReady, InputsGiven}
 use Rattle.outputs.proofs.Outputs.{found-is, found-few}
 use Rattle.listing.specs.Lent.{Lined}
 use Rattle.listing.proofs.Lines.{lined-more}
@@ -53,7 +53,7 @@ find-requires c κs =
     let a = begun l .args in
     let same = l .loop .inv .2 in (
       subst (SearchReady (a .table .now) (a .rows .now)) (sym same) (begun l .pre .0 .ready),
-      subst (Given (a .shape .inputs)) (sym same) (begun l .pre .0 .given),
+      subst (InputsGiven (a .shape .inputs)) (sym same) (begun l .pre .0 .given),
       omega (arith, below o, ap length same),
     )
 

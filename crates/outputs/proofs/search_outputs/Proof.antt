@@ -10,7 +10,7 @@ use Rattle.search.specs.Pins.{sumBelow}
 use Rattle.search.specs.Search as spec
 use Rattle.visit.specs.Source.{sourceFrom}
 use Rattle.visit.specs.Found.{foundOf}
-use Rattle.visit.specs.Lent.{SearchReady, Given}
+use Rattle.visit.specs.Lent.{SearchReady, InputsGiven}
 use Rattle.outputs.specs.Outputs.{byteFrom, sumFrom}
 use Rattle.outputs.proofs.Outputs.{found-is, found-few, found-next, found-byte}
 use borrow.Author.Needs.{needs}
@@ -56,7 +56,7 @@ find-requires c κs =
     let same = l .loop .inv .6 in
     let below = p .output-below (l .loop .output) (o .before .loop-test .taken) in (
       subst (SearchReady (a .table .now) (a .rows .now)) (sym same) (p .ready),
-      subst (Given (a .shape .inputs)) (sym same) (p .given),
+      subst (InputsGiven (a .shape .inputs)) (sym same) (p .given),
       omega (arith, o .output-of .ensures, ap length same),
     )
 
