@@ -141,27 +141,27 @@ pub one-class : (j : ℕ) → j < 8 → 2 ^ j ≡ setOf (same (getD classes j c0
 unfolding tab setOf
 one-class j h = agree (λ j. 2 ^ j) (λ j. setOf (same (getD classes j c0))) 8 refl j h
 
-bit-high : (b : Bool) → bit b ≤ 1
+pub bit-high : (b : Bool) → bit b ≤ 1
 bit-high true = omega arith
 bit-high false = omega arith
 
 -- a set is a byte
-set-small : (f : Class → Bool) → setOf f < 256
+set-byte : (f : Class → Bool) → setOf f < 256
 unfolding setOf
-set-small f = omega (arith, bit-high (f c0), bit-high (f c1), bit-high (f R), bit-high (f F), bit-high (f S0), bit-high (f S1), bit-high (f D+), bit-high (f D-))
+set-byte f = omega (arith, bit-high (f c0), bit-high (f c1), bit-high (f R), bit-high (f F), bit-high (f S0), bit-high (f S1), bit-high (f D+), bit-high (f D-))
 
 pub swap-small : (b : Bool) (m : ℕ) → swapIf b m < 256
 unfolding swapIf
-swap-small b m = set-small (λ k. has m (invertIf b k))
+swap-small b m = set-byte (λ k. has m (invertIf b k))
 
 pub preimage-small : (o : Op) (p : Class) (m : ℕ) → preimage o p m < 256
 unfolding preimage
-preimage-small o p m = set-small (λ k. has m (join o p k))
+preimage-small o p m = set-byte (λ k. has m (join o p k))
 
 pub reach-small : (o : Op) (m : ℕ) → reach o m < 256
 unfolding reach
-reach-small o m = set-small (λ k. some (λ c. has m (join o k c)) classes)
+reach-small o m = set-byte (λ k. some (λ c. has m (join o k c)) classes)
 
 pub possible-small : (o : Op) (inverted : Bool) (p : Class) (left : Bool) → possible o inverted p left < 256
 unfolding possible
-possible-small o inverted p left = set-small (λ c. some (λ k. same (invertIf inverted (cond left (join o p k) p)) c) classes)
+possible-small o inverted p left = set-byte (λ c. some (λ k. same (invertIf inverted (cond left (join o p k) p)) c) classes)

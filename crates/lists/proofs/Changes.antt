@@ -3,7 +3,7 @@ use Prim.Native.Nat.{ℕ, zero, suc, _+_, _*_, _≤_, _<_}
 use native.Mathlib.Omega.{arith}
 use native.Mathlib.Numerals.{add-one}
 use native.Mathlib.Nat.{add-comm, suc-mul, le-trans}
-use mathlib.Core.Bool.{Bool, true, false}
+use mathlib.Core.Bool.{true}
 use mathlib.Core.Path.{_≡_, refl, sym, _∙_, ap}
 use mathlib.Core.List.{List, _++_}
 use mathlib.Core.Option.{Option}
@@ -12,6 +12,7 @@ use Rattle.kung.specs.Class.{Class}
 use Rattle.kung.specs.Rule.{some}
 use Rattle.kung.specs.Sets.{bit, cleanSet}
 use Rattle.kung.specs.Tables.{tab}
+use Rattle.kung.proofs.Unions.{bit-high}
 use Rattle.circuit.specs.Circuit.{Card}
 use Rattle.netlist.specs.Netlist.{inputsOf, gatesOf, outputsOf, outputAt, cardOf}
 use Rattle.netlist.specs.Formed.{Formed}
@@ -47,10 +48,6 @@ sum-high : (f : ℕ → ℕ) (b n : ℕ) → ((k : ℕ) → k < n → f k ≤ b)
 unfolding sumBelow
 sum-high f b zero h = omega arith
 sum-high f b (suc n) h = omega (arith, suc-mul n b, sum-high f b n (λ k l. h k (omega arith)), h n (omega arith))
-
-bit-high : (b : Bool) → bit b ≤ 1
-bit-high true = omega arith
-bit-high false = omega arith
 
 -- no more gates are touched than there are
 touched-few : (card : Card) (known : ℕ → Option Class) → touched card known ≤ card .gates
