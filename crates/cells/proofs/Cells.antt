@@ -14,9 +14,10 @@ use Rattle.kung.specs.Operation.{opAt, invertIf, unit}
 use Rattle.kung.proofs.Finite.{ofCode-code}
 use Rattle.kung.proofs.Laws.{invert-invert}
 use Rattle.search.specs.Search.{new, kept}
-use Rattle.cells.specs.Codes.{codeOr, knownMark, openMark, markOf, begunFrom}
+use Rattle.checks.specs.Codes.{codeOr}
+use Rattle.cells.specs.Codes.{knownMark, openMark, markOf, begunFrom}
 use Rattle.cells.specs.Cells.{cellIn, knownOf, knownIn, toldIn}
-use Rattle.cells.proofs.Codes.{code-small, code-ofCode}
+use Rattle.checks.proofs.Codes.{code-small, code-ofCode}
 
 -- a byte of a gate that is new, unfinished or known
 pub cell-new : (v : Bool) (b : ℕ) → b < 16 → cellIn v b ≡ new

@@ -24,7 +24,7 @@ use Rattle.search.specs.Search.{search}
 use Rattle.search.specs.Pins.{sumBelow, pinsIn}
 use Rattle.search.proofs.Writes.{closed-all}
 use Rattle.search.proofs.Counts.{search-pins}
-use Rattle.cells.proofs.Codes.{code-small}
+use Rattle.checks.proofs.Codes.{code-small}
 use Rattle.visit.specs.Source.{sourceFrom}
 use Rattle.visit.specs.Lent.{inputsKnown}
 use Rattle.visit.specs.Cells.{Afresh}

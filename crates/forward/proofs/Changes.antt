@@ -36,7 +36,7 @@ use Rattle.visit.specs.Cells.{Afresh}
 use Rattle.outputs.specs.Outputs.{verdictByte, searchFrom, byteFrom, sumFrom}
 use Rattle.outputs.specs.Lent.{OutputsReady}
 use Rattle.outputs.proofs.Ready.{output-is, outputs-ready}
-use Rattle.cells.proofs.Codes.{code-small}
+use Rattle.checks.proofs.Codes.{code-small}
 use Rattle.simulate.proofs.Laws.{filled-codes, filled-after}
 use Rattle.simulate.specs.Full.{classIn, codes}
 use Rattle.simulate.proofs.Theorems.{class-value, codes-length}

@@ -14,10 +14,11 @@ use Rattle.kung.specs.Operation.{invertIf}
 use Rattle.rows.specs.Rows.{invertsIn, wordIn, rowKind, rowPins}
 use Rattle.search.specs.Search.{byteOf, cellOf, cellAt, put, possibleOf, only, toldOr, driverOf}
 use Rattle.search.proofs.Laws.{cellOf-byteOf}
-use Rattle.cells.specs.Codes.{codeOr, markOf}
+use Rattle.checks.specs.Codes.{codeOr}
+use Rattle.cells.specs.Codes.{markOf}
 use Rattle.cells.specs.Cells.{cellIn, knownOf, knownIn, toldIn}
-use Rattle.cells.proofs.Codes.{code-small, code-ofCode}
-use Rattle.cells.proofs.Checks.{only-own}
+use Rattle.checks.proofs.Codes.{code-small, code-ofCode}
+use Rattle.checks.proofs.Checks.{only-own}
 use Rattle.cells.proofs.Cells.{cell-new, cell-open, cell-known, known-small, mark-cell, mark-told, mark-large, fresh-known-of}
 use Rattle.visit.specs.Source.{signalOf, sourceFrom}
 use Rattle.visit.specs.Codes.{toldOf}

@@ -15,9 +15,9 @@ use Rattle.rows.specs.Rows.{rowKind, invertsIn, wordIn}
 use Rattle.search.specs.Search.{byteOf, fresh, total, visitedOf, nextOf, cellAt, cellOf, nobody, Outcome, stopped, known, unfinished, driverOf, Ended, takePin, visit, judged, verdictOf, visited, answerOf, endFrom, search}
 use Rattle.search.proofs.Laws.{fresh-at, total-fresh}
 use Rattle.search.proofs.Same.{search-any}
-use Rattle.cells.specs.Codes.{waitingOf, endingOf}
+use Rattle.checks.specs.Codes.{waitingOf, endingOf}
 use Rattle.cells.specs.Cells.{knownOf, knownIn}
-use Rattle.cells.proofs.Codes.{code-small}
+use Rattle.checks.proofs.Codes.{code-small}
 use Rattle.cells.proofs.Cells.{cell-new, known-small, fresh-known-of}
 use Rattle.visit.specs.declared.Verdict.{Verdict}
 use Rattle.visit.specs.declared.Found.{Found}

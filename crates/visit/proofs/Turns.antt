@@ -16,9 +16,10 @@ use Rattle.rows.specs.Rows.{countIn, gateIn, invertsIn, wordIn, rowKind, rowPin
 use Rattle.search.specs.Search.{kept, byteOf, nextOf, visitedOf, put, possibleOf, only, gatesVisited, pinsTaken}
 use Rattle.search.proofs.Laws.{nextOf-byteOf}
 use Rattle.search.proofs.Counts.{total-put, visited-kept}
-use Rattle.cells.specs.Codes.{codeOr, begunFrom, arrivedTally, markOf}
+use Rattle.checks.specs.Codes.{codeOr}
+use Rattle.cells.specs.Codes.{begunFrom, arrivedTally, markOf}
 use Rattle.cells.specs.Cells.{cellIn, knownOf, knownIn, toldIn}
-use Rattle.cells.proofs.Checks.{only-own}
+use Rattle.checks.proofs.Checks.{only-own}
 use Rattle.cells.proofs.Cells.{cell-new, cell-open, known-set, mark-cell, mark-large, untold-between, begun-next}
 use Rattle.visit.specs.Cells.{cellsIn, Marked, Marks}
 use Rattle.visit.specs.Visits.{tallyOf, Lends, Takes}

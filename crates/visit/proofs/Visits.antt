@@ -19,10 +19,11 @@ use Rattle.rows.specs.Rows.{countIn, gateIn, invertsIn, wordIn, rowKind, rowPin
 use Rattle.search.specs.Search.{Cell, kept, cellAt, put, possibleOf, pinsLeft, only, Waiting, nobody, waits, Outcome, stopped, known, unfinished, checks, Driver, told, behind, toldOr, driverOf, Ended, fetch, react, takePin, takePins, visit}
 use Rattle.search.proofs.Steps.{left-is, visit-gate, pins-end, pins-step}
 use Rattle.search.proofs.Same.{take-put}
-use Rattle.cells.specs.Codes.{waitingOf, endingOf, checkOf, begunFrom}
+use Rattle.checks.specs.Codes.{waitingOf, endingOf, checkOf}
+use Rattle.cells.specs.Codes.{begunFrom}
 use Rattle.cells.specs.Cells.{cellIn, knownIn, toldIn}
-use Rattle.cells.proofs.Codes.{code-small}
-use Rattle.cells.proofs.Checks.{joins, ended, ended-by, goes-on, stops}
+use Rattle.checks.proofs.Codes.{code-small}
+use Rattle.checks.proofs.Checks.{joins, ended, ended-by, goes-on, stops}
 use Rattle.cells.proofs.Cells.{cell-new, cell-open, known-small, same-code, told-class, untold-between, untold-searched}
 use Rattle.visit.specs.Source.{signalOf, sourceFrom}
 use Rattle.visit.specs.Codes.{toldOf}

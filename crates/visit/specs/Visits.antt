@@ -4,7 +4,7 @@ use mathlib.Core.Path.{_≡_}
 use mathlib.Core.List.{List, [], _∷_}
 use lib.ListN.{length, getD}
 use Rattle.search.specs.Search.{gatesVisited, pinsTaken, Waiting, Ended, takePin, visit}
-use Rattle.cells.specs.Codes.{waitingOf, endingOf}
+use Rattle.checks.specs.Codes.{waitingOf, endingOf}
 use Rattle.cells.specs.Cells.{knownIn}
 use Rattle.visit.specs.Source.{sourceFrom}
 use Rattle.visit.specs.Cells.{cellsIn, Marks}

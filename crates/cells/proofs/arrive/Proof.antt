@@ -7,7 +7,7 @@ use lib.ListN.{getD, set}
 use lib.Seq.{set-getD, getD-set-other}
 use borrow.Author.Tests.{lt-ltb, le-ltb}
 use Rattle.cells.specs.Codes.{begunFrom}
-use Rattle.cells.proofs.Codes.{unit-code}
+use Rattle.checks.proofs.Codes.{unit-code}
 use borrow.Author.Needs.{needs}
 use Rattle.cells.proofs.arrive.Statement.{statement}
 use Rattle.cells.proofs.arrive.Tie as tie

@@ -24,10 +24,11 @@ use Rattle.kung.proofs.Unions.{swap-small, preimage-small, reach-small, possibl
 use Rattle.rows.specs.Rows.{countIn, gateIn, invertsIn, wordIn, rowKind, rowPins}
 use Rattle.rows.specs.Lent.{GateRow}
 use Rattle.search.specs.Search.{Cell, kept, put, only, Outcome, checks, waits}
-use Rattle.cells.specs.Codes.{waitingOf, codeOr, checkOf, begunFrom, markOf}
+use Rattle.checks.specs.Codes.{waitingOf, codeOr, checkOf}
+use Rattle.cells.specs.Codes.{begunFrom, markOf}
 use Rattle.cells.specs.Cells.{cellIn, knownIn, toldIn}
-use Rattle.cells.proofs.Codes.{code-small, only-code}
-use Rattle.cells.proofs.Checks.{ended, over, wants, last-class, last-ends, last-is}
+use Rattle.checks.proofs.Codes.{code-small, only-code}
+use Rattle.checks.proofs.Checks.{ended, over, wants, last-class, last-ends, last-is}
 use Rattle.cells.proofs.Cells.{open-cell, told-small, untold-searched, begun-next}
 use Rattle.visit.specs.Cells.{cellsIn, Marks}
 use Rattle.visit.specs.Lent.{SearchReady}
@@ -44,10 +45,10 @@ use Rattle.visit.proofs.visit.Reads as visit
 use Rattle.visit.proofs.visit.Kinds as visit-kinds
 use Rattle.visit.proofs.+take+visit.Lts-visit as visit-lts
 use Rattle.cells.proofs.arrive.Reads as arrive-reads
-use Rattle.cells.proofs.check_known.Reads as check-known-reads
-use Rattle.cells.proofs.check_set.Reads as check-set-reads
-use Rattle.cells.proofs.class_of.Reads as class-of-reads
-use Rattle.cells.proofs.has_class.Reads as has-class-reads
+use Rattle.checks.proofs.check_known.Reads as check-known-reads
+use Rattle.checks.proofs.check_set.Reads as check-set-reads
+use Rattle.checks.proofs.class_of.Reads as class-of-reads
+use Rattle.checks.proofs.has_class.Reads as has-class-reads
 use Rattle.cells.proofs.is_told.Reads as is-told-reads
 use Rattle.cells.proofs.known_mark.Reads as known-mark-reads
 use Rattle.cells.proofs.leave.Reads as leave-reads

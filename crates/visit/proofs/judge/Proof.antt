@@ -3,7 +3,7 @@ use native.Mathlib.Omega.{arith}
 use mathlib.Core.Path.{sym, _∙_, ap}
 use borrow.Author.Needs.{needs}
 use Rattle.search.specs.Search.{judged}
-use Rattle.cells.proofs.Codes.{code-ofCode}
+use Rattle.checks.proofs.Codes.{code-ofCode}
 use Rattle.visit.specs.declared.Verdict.the-variants.{Clean}
 use Rattle.visit.proofs.judge.Statement.{statement}
 use Rattle.visit.proofs.judge.Tie as tie

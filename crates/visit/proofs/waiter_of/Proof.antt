@@ -1,6 +1,6 @@
 -- `visit::waiter_of` meets its contract. Assumes nothing.
 use native.Mathlib.Omega.{arith}
-use Rattle.cells.proofs.Codes.{waiter-code}
+use Rattle.checks.proofs.Codes.{waiter-code}
 use borrow.Author.Needs.{needs}
 use Rattle.visit.proofs.waiter_of.Statement.{statement}
 use Rattle.visit.proofs.waiter_of.Tie as tie

@@ -1,9 +1,9 @@
 -- `cells::has_class` meets its contract. Assumes nothing.
 use borrow.Author.Needs.{needs}
 use Rattle.kung.specs.Sets.{has}
-use Rattle.cells.proofs.Codes.{code-ofCode}
-use Rattle.cells.proofs.has_class.Statement.{statement}
-use Rattle.cells.proofs.has_class.Tie as tie
+use Rattle.checks.proofs.Codes.{code-ofCode}
+use Rattle.checks.proofs.has_class.Statement.{statement}
+use Rattle.checks.proofs.has_class.Tie as tie
 
 shr-result : tie.Need-shr-result
 shr-result c = search needs

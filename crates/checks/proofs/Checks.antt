@@ -19,8 +19,8 @@ use Rattle.kung.proofs.Finite.{T→≡, everyClass, class-at, ofCode-code}
 use Rattle.kung.proofs.SetLaws.{has-setOf, has-swapIf, meets-possible, wanted-preimage}
 use Rattle.search.specs.Search.{possibleOf, pinsLeft, only, Waiting, nobody, waits, Outcome, stopped, known, sameResult, knownOr, checks}
 use Rattle.search.proofs.Laws.{only-has, only-last}
-use Rattle.cells.specs.Codes.{waitingOf, codeOr, endingOf, checkOf}
-use Rattle.cells.proofs.Codes.{code-small, meets-and, only-code}
+use Rattle.checks.specs.Codes.{waitingOf, codeOr, endingOf, checkOf}
+use Rattle.checks.proofs.Codes.{code-small, meets-and, only-code}
 
 pub stops : (wt : Waiting) → endingOf wt stopped ≡ 8
 stops nobody = refl

@@ -4,10 +4,10 @@ use native.Mathlib.Omega.{arith}
 use borrow.Author.Needs.{needs}
 use borrow.Author.Tests.{lt-ltb, le-ltb}
 use Rattle.search.specs.Search.{sameResult, only}
-use Rattle.cells.specs.Codes.{waitingOf, codeOr}
-use Rattle.cells.proofs.Codes.{only-code}
-use Rattle.cells.proofs.same_result_of.Statement.{statement}
-use Rattle.cells.proofs.same_result_of.Tie as tie
+use Rattle.checks.specs.Codes.{waitingOf, codeOr}
+use Rattle.checks.proofs.Codes.{only-code}
+use Rattle.checks.proofs.same_result_of.Statement.{statement}
+use Rattle.checks.proofs.same_result_of.Tie as tie
 
 image-of-requires : tie.Need-image-of-requires
 image-of-requires c κs = search needs

@@ -4,11 +4,11 @@ use native.Mathlib.Omega.{arith}
 use Rattle.kung.specs.Class.{code, ofCode}
 use Rattle.kung.specs.Lookup.{joinedBy}
 use Rattle.search.specs.Search.{only}
-use Rattle.cells.specs.Codes.{waitingOf, codeOr}
-use Rattle.cells.proofs.Checks.{joins, check-a, check-b, check-c}
+use Rattle.checks.specs.Codes.{waitingOf, codeOr}
+use Rattle.checks.proofs.Checks.{joins, check-a, check-b, check-c}
 use borrow.Author.Needs.{needs}
-use Rattle.cells.proofs.check_set.Statement.{statement}
-use Rattle.cells.proofs.check_set.Tie as tie
+use Rattle.checks.proofs.check_set.Statement.{statement}
+use Rattle.checks.proofs.check_set.Tie as tie
 
 returns : tie.Need-returns
 returns c =

@@ -10,8 +10,8 @@ use Rattle.kung.specs.Rule.{invert}
 use Rattle.kung.specs.Operation.{invertIf}
 use Rattle.kung.specs.Tables.{tab}
 use Rattle.kung.proofs.Listed.{agree}
-use Rattle.cells.proofs.class_of.Statement.{statement}
-use Rattle.cells.proofs.class_of.Tie as tie
+use Rattle.checks.proofs.class_of.Statement.{statement}
+use Rattle.checks.proofs.class_of.Tie as tie
 
 -- by the list of its eight values, for a gate that inverts and one that does not
 both : (v p : ℕ) → v < 2 → p < 8 → bitXor p v ≡ code (invertIf (eqb v 1) (getD classes p c0))

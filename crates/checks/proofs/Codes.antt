@@ -16,7 +16,7 @@ use Rattle.kung.specs.Tables.{tab}
 use Rattle.kung.proofs.Finite.{ofCode-code}
 use Rattle.kung.proofs.Listed.{agree}
 use Rattle.search.specs.Search.{onlyOf, only, waits}
-use Rattle.cells.specs.Codes.{waitingOf, codeOr}
+use Rattle.checks.specs.Codes.{waitingOf, codeOr}
 
 op-digit : (n : ℕ) → n % 2 ≡ opCode (opAt n)
 op-digit n = go (n % 2) (omega arith)

@@ -1,8 +1,8 @@
 -- `cells::check_known` meets its contract. Assumes nothing.
 use mathlib.Core.Path.{sym, _∙_}
 use borrow.Author.Needs.{needs}
-use Rattle.cells.proofs.check_known.Statement.{statement}
-use Rattle.cells.proofs.check_known.Tie as tie
+use Rattle.checks.proofs.check_known.Statement.{statement}
+use Rattle.checks.proofs.check_known.Tie as tie
 
 has-class-requires : tie.Need-has-class-requires
 has-class-requires c κs = search needs
