@@ -9,8 +9,8 @@ use Rattle.forward.specs.Forward.{forwardAnswer, forwardBuffer}
 use Rattle.lists.specs.declared.Judged.{Judged}
 use Rattle.lists.specs.Methods.{Method}
 use Rattle.batch.specs.Batch.{Answers}
+use Rattle.replies.proofs.Words.{same}
 use Rattle.answers.specs.Answers.{simulatedAnswer, forwardedAnswer, judgedAnswer}
-use Rattle.answers.proofs.Words.{same}
 use Rattle.lanecard.specs.Buffers.{Fulled, ForwardedOf, AllJudged}
 
 module _ {n l entry exit words : List ℕ} {number : ℕ} where

@@ -8,7 +8,8 @@ ghost use Rattle.changes.specs.Refusals.{listChecked};
 ghost use Rattle.core.specs.Core.{coreAnswer};
 ghost use Rattle.lists.specs.Methods.{fullOf, forwardOf, coreOf};
 ghost use Rattle.walk.specs.Walk.{opened, startOf, walkAt, stepOf};
-ghost use Rattle.answers.specs.Answers.{netlistAnswer, listAnswer, coredAnswer, startAnswer, stepAnswer};
+ghost use Rattle.replies.specs.Replies.{netlistAnswer, listAnswer, startAnswer, stepAnswer};
+ghost use Rattle.answers.specs.Answers.{coredAnswer};
 ghost use Rattle.lanecard.specs.Buffers.{Fulled, ForwardedOf, AllJudged};
 
 #[no_mangle]
@@ -31,7 +32,7 @@ pub extern "C" fn lane_netlist(netlist: &[u8], answer: &mut [u64; 5]) -> u32
     ensures { λ r. ⌜ (r ≡ netlistAnswer (checked (now (netlist .entry))) .number) × (now (answer .exit) ≡ netlistAnswer (checked (now (netlist .entry))) .words) ⌝ }
 {
     let checked = netlist::check(netlist);
-    answers::put_checked(answer, checked)
+    replies::put_checked(answer, checked)
 }
 
 #[no_mangle]
@@ -39,7 +40,7 @@ pub extern "C" fn lane_list(netlist: &[u8], list: &[u8], answer: &mut [u64; 5]) 
     ensures { λ r. ⌜ (r ≡ listAnswer (listChecked (now (netlist .entry)) (now (list .entry))) .number) × (now (answer .exit) ≡ listAnswer (listChecked (now (netlist .entry)) (now (list .entry))) .words) ⌝ }
 {
     let listed = changes::check(netlist, list);
-    answers::put_listed(answer, listed)
+    replies::put_listed(answer, listed)
 }
 
 #[no_mangle]
@@ -128,7 +129,7 @@ pub extern "C" fn lane_walk(netlist: &[u8], answer: &mut [u64; 5]) -> u32
     ensures { λ r. ⌜ (r ≡ startAnswer (startOf (opened (netlist .entry))) .number) × (now (answer .exit) ≡ startAnswer (startOf (opened (netlist .entry))) .words) ⌝ }
 {
     let start = walk::open_at(netlist);
-    answers::put_start(answer, start)
+    replies::put_start(answer, start)
 }
 
 #[no_mangle]
@@ -142,5 +143,5 @@ pub extern "C" fn lane_step(
     ensures { λ r. ⌜ (r ≡ stepAnswer (stepOf (walkAt (netlist .entry) number place count)) .number) × (now (answer .exit) ≡ stepAnswer (stepOf (walkAt (netlist .entry) number place count)) .words) ⌝ }
 {
     let stepped = walk::step_at(netlist, number, place, count);
-    answers::put_stepped(answer, stepped)
+    replies::put_stepped(answer, stepped)
 }

@@ -1,7 +1,7 @@
 -- `answers::put_cored` meets its contract: the answer of CORE, in words. Assumes nothing.
 use mathlib.Core.Path.{refl}
+use Rattle.replies.proofs.Words.{same}
 use Rattle.answers.specs.Answers.{coredAnswer}
-use Rattle.answers.proofs.Words.{same}
 use borrow.Author.Needs.{needs}
 use Rattle.answers.proofs.put_cored.Statement.{statement}
 use Rattle.answers.proofs.put_cored.Tie as tie

@@ -1,7 +1,7 @@
 -- `answers::put_forwarded` meets its contract: the answer of the forward method, in words. Assumes nothing.
 use mathlib.Core.Path.{refl}
+use Rattle.replies.proofs.Words.{same}
 use Rattle.answers.specs.Answers.{forwardedAnswer}
-use Rattle.answers.proofs.Words.{same}
 use borrow.Author.Needs.{needs}
 use Rattle.answers.proofs.put_forwarded.Statement.{statement}
 use Rattle.answers.proofs.put_forwarded.Tie as tie

@@ -1,7 +1,7 @@
 -- `answers::put_judged` meets its contract: a method's answer, in words. Assumes nothing.
 use mathlib.Core.Path.{refl}
+use Rattle.replies.proofs.Words.{same}
 use Rattle.answers.specs.Answers.{judgedAnswer}
-use Rattle.answers.proofs.Words.{same}
 use borrow.Author.Needs.{needs}
 use Rattle.answers.proofs.put_judged.Statement.{statement}
 use Rattle.answers.proofs.put_judged.Tie as tie

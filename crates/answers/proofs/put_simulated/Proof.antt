@@ -1,7 +1,7 @@
 -- `answers::put_simulated` meets its contract: the answer of full simulation, in words. Assumes nothing.
 use mathlib.Core.Path.{refl}
+use Rattle.replies.proofs.Words.{same}
 use Rattle.answers.specs.Answers.{simulatedAnswer}
-use Rattle.answers.proofs.Words.{same}
 use borrow.Author.Needs.{needs}
 use Rattle.answers.proofs.put_simulated.Statement.{statement}
 use Rattle.answers.proofs.put_simulated.Tie as tie

@@ -1,7 +1,7 @@
 -- `lanecard::lane_core` meets its contract: the answer of CORE, in words. Assumes nothing.
 use mathlib.Core.Path.{sym}
+use Rattle.replies.proofs.Words.{same}
 use Rattle.answers.specs.Answers.{coredAnswer}
-use Rattle.answers.proofs.Words.{same}
 use borrow.Author.Needs.{needs}
 use Rattle.lanecard.proofs.lane_core.Statement.{statement}
 use Rattle.lanecard.proofs.lane_core.Tie as tie

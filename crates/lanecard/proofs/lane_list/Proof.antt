@@ -1,7 +1,7 @@
 -- `lanecard::lane_list` meets its contract: the answer of the check, in words. Assumes nothing.
 use mathlib.Core.Path.{sym}
-use Rattle.answers.specs.Answers.{listAnswer}
-use Rattle.answers.proofs.Words.{same}
+use Rattle.replies.specs.Replies.{listAnswer}
+use Rattle.replies.proofs.Words.{same}
 use borrow.Author.Needs.{needs}
 use Rattle.lanecard.proofs.lane_list.Statement.{statement}
 use Rattle.lanecard.proofs.lane_list.Tie as tie

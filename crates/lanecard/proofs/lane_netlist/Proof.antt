@@ -1,7 +1,7 @@
 -- `lanecard::lane_netlist` meets its contract: the answer of the check, in words. Assumes nothing.
 use mathlib.Core.Path.{sym}
-use Rattle.answers.specs.Answers.{netlistAnswer}
-use Rattle.answers.proofs.Words.{same}
+use Rattle.replies.specs.Replies.{netlistAnswer}
+use Rattle.replies.proofs.Words.{same}
 use borrow.Author.Needs.{needs}
 use Rattle.lanecard.proofs.lane_netlist.Statement.{statement}
 use Rattle.lanecard.proofs.lane_netlist.Tie as tie

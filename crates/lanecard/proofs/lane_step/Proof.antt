@@ -1,7 +1,7 @@
 -- `lanecard::lane_step` meets its contract: a step of a walk, in words. Assumes nothing.
 use mathlib.Core.Path.{sym}
-use Rattle.answers.specs.Answers.{stepAnswer}
-use Rattle.answers.proofs.Words.{same}
+use Rattle.replies.specs.Replies.{stepAnswer}
+use Rattle.replies.proofs.Words.{same}
 use borrow.Author.Needs.{needs}
 use Rattle.lanecard.proofs.lane_step.Statement.{statement}
 use Rattle.lanecard.proofs.lane_step.Tie as tie

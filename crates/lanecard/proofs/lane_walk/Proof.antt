@@ -1,7 +1,7 @@
 -- `lanecard::lane_walk` meets its contract: where an opened walk starts, in words. Assumes nothing.
 use mathlib.Core.Path.{sym}
-use Rattle.answers.specs.Answers.{startAnswer}
-use Rattle.answers.proofs.Words.{same}
+use Rattle.replies.specs.Replies.{startAnswer}
+use Rattle.replies.proofs.Words.{same}
 use borrow.Author.Needs.{needs}
 use Rattle.lanecard.proofs.lane_walk.Statement.{statement}
 use Rattle.lanecard.proofs.lane_walk.Tie as tie

@@ -1,8 +1,8 @@
--- `answers::put_stepped` meets its contract: a step of a walk, in words. Assumes nothing.
+-- `replies::put_stepped` meets its contract: a step of a walk, in words. Assumes nothing.
 use mathlib.Core.Path.{refl}
 use borrow.Author.Needs.{needs}
-use Rattle.answers.proofs.put_stepped.Statement.{statement}
-use Rattle.answers.proofs.put_stepped.Tie as tie
+use Rattle.replies.proofs.put_stepped.Statement.{statement}
+use Rattle.replies.proofs.put_stepped.Tie as tie
 
 put-requires : tie.Need-put-requires
 put-requires c κs = search needs

@@ -1,10 +1,10 @@
--- `answers::put_checked` meets its contract: the netlist's check, in words. Assumes nothing.
+-- `replies::put_checked` meets its contract: the netlist's check, in words. Assumes nothing.
 use mathlib.Core.Path.{refl}
-use Rattle.answers.specs.Answers.{netlistAnswer}
-use Rattle.answers.proofs.Words.{same}
+use Rattle.replies.specs.Replies.{netlistAnswer}
+use Rattle.replies.proofs.Words.{same}
 use borrow.Author.Needs.{needs}
-use Rattle.answers.proofs.put_checked.Statement.{statement}
-use Rattle.answers.proofs.put_checked.Tie as tie
+use Rattle.replies.proofs.put_checked.Statement.{statement}
+use Rattle.replies.proofs.put_checked.Tie as tie
 
 enum-known-checked : tie.Need-enum-known-checked
 enum-known-checked c = search needs

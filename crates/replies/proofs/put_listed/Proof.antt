@@ -1,10 +1,10 @@
--- `answers::put_listed` meets its contract: the list's check, in words. Assumes nothing.
+-- `replies::put_listed` meets its contract: the list's check, in words. Assumes nothing.
 use mathlib.Core.Path.{refl}
-use Rattle.answers.specs.Answers.{listAnswer}
-use Rattle.answers.proofs.Words.{same}
+use Rattle.replies.specs.Replies.{listAnswer}
+use Rattle.replies.proofs.Words.{same}
 use borrow.Author.Needs.{needs}
-use Rattle.answers.proofs.put_listed.Statement.{statement}
-use Rattle.answers.proofs.put_listed.Tie as tie
+use Rattle.replies.proofs.put_listed.Statement.{statement}
+use Rattle.replies.proofs.put_listed.Tie as tie
 
 enum-known-listed : tie.Need-enum-known-listed
 enum-known-listed c = search needs

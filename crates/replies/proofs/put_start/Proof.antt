@@ -1,12 +1,12 @@
--- `answers::put_start` meets its contract: where an opened walk starts, in words. Assumes nothing.
+-- `replies::put_start` meets its contract: where an opened walk starts, in words. Assumes nothing.
 use mathlib.Core.Path.{refl}
 use Rattle.netlist.specs.declared.Checked.{Checked}
 use Rattle.walk.specs.declared.Start.{Start}
-use Rattle.answers.specs.Answers.{Answer, openedAnswer}
-use Rattle.answers.proofs.Words.{same}
+use Rattle.replies.specs.Replies.{Answer, openedAnswer}
+use Rattle.replies.proofs.Words.{same}
 use borrow.Author.Needs.{needs}
-use Rattle.answers.proofs.put_start.Statement.{statement}
-use Rattle.answers.proofs.put_start.Tie as tie
+use Rattle.replies.proofs.put_start.Statement.{statement}
+use Rattle.replies.proofs.put_start.Tie as tie
 
 -- its answer in words, by the check's
 abbrev by : Start → Checked → Answer

@@ -1,8 +1,8 @@
--- `answers::refuse` meets its contract: a refusal's number, and its place in words. Assumes nothing.
+-- `replies::refuse` meets its contract: a refusal's number, and its place in words. Assumes nothing.
 use mathlib.Core.Path.{refl}
 use borrow.Author.Needs.{needs}
-use Rattle.answers.proofs.refuse.Statement.{statement}
-use Rattle.answers.proofs.refuse.Tie as tie
+use Rattle.replies.proofs.refuse.Statement.{statement}
+use Rattle.replies.proofs.refuse.Tie as tie
 
 put-requires : tie.Need-put-requires
 put-requires c κs = search needs
