@@ -13,11 +13,12 @@ use Rattle.kung.specs.Class.{Class, code, ofCode}
 use Rattle.kung.specs.Operation.{opAt, invertIf, unit}
 use Rattle.kung.proofs.Finite.{ofCode-code}
 use Rattle.kung.proofs.Laws.{invert-invert}
+use Rattle.kung.proofs.SetLaws.{code-lt}
 use Rattle.search.specs.Search.{new, kept}
 use Rattle.checks.specs.Codes.{codeOr}
 use Rattle.cells.specs.Codes.{knownMark, openMark, markOf, begunFrom}
 use Rattle.cells.specs.Cells.{cellIn, knownOf, knownIn, toldIn}
-use Rattle.checks.proofs.Codes.{code-small, code-ofCode}
+use Rattle.checks.proofs.Codes.{code-ofCode}
 
 -- a byte of a gate that is new, unfinished or known
 pub cell-new : (v : Bool) (b : ℕ) → b < 16 → cellIn v b ≡ new
@@ -50,7 +51,7 @@ same-code b k e = sym (ofCode-code (ofCode b)) ∙ ap ofCode (code-ofCode b ∙ 
 known-cell : (v : Bool) (p : Class) (next : ℕ) → cellIn v (knownMark (code (invertIf v p)) next) ≡ kept p next
 known-cell v p next =
     let k = invertIf v p in
-    let small : code k < 8 = code-small k in
+    let small : code k < 8 = code-lt k in
     let b = knownMark (code k) next in
     let rest : b % 8 ≡ code k = omega arith in
     let pin : b / 8 - 16 ≡ next = omega arith in
@@ -67,13 +68,13 @@ open-cell v p next few =
 pub mark-cell : (v : Bool) (p next : ℕ) (one : Option Class) → next ≤ 13 → ((k : Class) → one ≡ some k → k ≡ invertIf v (ofCode p))
     → cellIn v (markOf (codeOr one) p next) ≡ kept (ofCode p) next
 mark-cell v p next (some k) few own =
-    rw (lt-ltb (code k) 8 (code-small k)) (ap (λ k. cellIn v (knownMark (code k) next)) (own k refl) ∙ known-cell v (ofCode p) next)
+    rw (lt-ltb (code k) 8 (code-lt k)) (ap (λ k. cellIn v (knownMark (code k) next)) (own k refl) ∙ known-cell v (ofCode p) next)
 mark-cell v p next none few own = open-cell v p next few
 
 pub mark-told : (p next : ℕ) (one : Option Class) → next ≤ 13 → toldIn (markOf (codeOr one) p next) ≡ codeOr one
 mark-told p next (some k) few =
     let b = knownMark (code k) next in
-    let small : code k < 8 = code-small k in
+    let small : code k < 8 = code-lt k in
     rw (lt-ltb (code k) 8 small) (rw (le-ltb b 8 (omega arith), le-ltb b 128 (omega arith)) (omega arith))
 mark-told p next none few = let b = openMark p next in rw (le-ltb b 8 (omega arith), lt-ltb b 128 (omega arith))
 
@@ -119,7 +120,7 @@ unfolding begunFrom
 begun-next g b = go (ltb b 16) refl
   where
     go : (t : Bool) → ltb b 16 ≡ t → cond t (16 + code (unit (opAt g))) b / 8 - 2 ≡ b / 8 - 2
-    go true e = let less = ltb-true b 16 e in let small : code (unit (opAt g)) < 8 = code-small (unit (opAt g)) in omega arith
+    go true e = let less = ltb-true b 16 e in let small : code (unit (opAt g)) < 8 = code-lt (unit (opAt g)) in omega arith
     go false e = refl
 
 -- bytes of which none is visited

@@ -8,19 +8,20 @@ use mathlib.Core.Option.{Option, none, some}
 use lib.Bits.{bitAnd}
 use lib.Dec.{T, eqb, ltb}
 use borrow.Author.Tests.{eq-eqb, ne-eqb, lt-ltb}
-use Rattle.kung.specs.Class.{Class, c0, c1, R, F, S0, S1, D+, D-, code, ofCode}
+use Rattle.kung.specs.Class.{Class, code, ofCode}
 use Rattle.kung.specs.Rule.{Kind, each, some as someOf, andAll, orAll}
 use Rattle.kung.specs.Operation.{Op, and, or, opOf, opAt, inverts, invertIf, join, joinAll}
-use Rattle.kung.specs.Sets.{bit, setOf, has, meets, image, possible, wantedFor}
+use Rattle.kung.specs.Sets.{setOf, has, meets, image, possible, wantedFor}
 use Rattle.kung.specs.Members.{swapIf}
 use Rattle.kung.specs.Tables.{preimage, reach}
 use Rattle.kung.specs.Lookup.{joinedBy, hasOne, givesOne, endsWith, stopSet}
 use Rattle.kung.proofs.Finite.{T→≡, everyClass, class-at, ofCode-code}
-use Rattle.kung.proofs.SetLaws.{has-setOf, has-swapIf, meets-possible, wanted-preimage}
+use Rattle.kung.proofs.SetLaws.{has-setOf, has-swapIf, meets-possible, wanted-preimage, code-lt}
+use Rattle.kung.proofs.Unions.{set-byte}
 use Rattle.search.specs.Search.{possibleOf, pinsLeft, only, Waiting, nobody, waits, Outcome, stopped, known, sameResult, knownOr, checks}
 use Rattle.search.proofs.Laws.{only-has, only-last}
 use Rattle.checks.specs.Codes.{waitingOf, codeOr, endingOf, checkOf}
-use Rattle.checks.proofs.Codes.{code-small, meets-and, only-code}
+use Rattle.checks.proofs.Codes.{meets-and, only-code}
 
 pub stops : (wt : Waiting) → endingOf wt stopped ≡ 8
 stops nobody = refl
@@ -59,7 +60,7 @@ module _ (m w : ℕ) (wt : Waiting) (byte : m < 256) where
         found o p none = refl
 
         go : (wt : Waiting) (k : Option Class) → 8 ≤ codeOr k → codeOr (sameResult wt m) ≡ checkOf wt (knownOr k (sameResult wt m))
-        go wt (some k) l = absurd (omega (arith, code-small k))
+        go wt (some k) l = absurd (omega (arith, code-lt k))
         go nobody none l = refl
         go (waits o p) none l = found o p (only (image o p m))
 
@@ -80,21 +81,12 @@ isSome : Option Class → Bool
 isSome (some k) = true
 isSome none = false
 
-bit-lt : (b : Bool) → bit b < 2
-bit-lt true = omega arith
-bit-lt false = omega arith
-
-set-byte : (f : Class → Bool) → setOf f < 256
-unfolding setOf
-set-byte f =
-    omega (arith, bit-lt (f c0), bit-lt (f c1), bit-lt (f R), bit-lt (f F), bit-lt (f S0), bit-lt (f S1), bit-lt (f D+), bit-lt (f D-))
-
 one-is : (m : ℕ) → m < 256 → hasOne m ≡ isSome (only m)
 unfolding isSome
 one-is m byte = rw (only-code m byte) (go (only m))
   where
     go : (k : Option Class) → ltb (codeOr k) 8 ≡ isSome k
-    go (some k) = lt-ltb (code k) 8 (code-small k)
+    go (some k) = lt-ltb (code k) 8 (code-lt k)
     go none = refl
 
 gives-is : (waiter m : ℕ) → givesOne waiter m ≡ isSome (sameResult (waitingOf waiter) m)

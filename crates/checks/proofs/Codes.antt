@@ -13,7 +13,6 @@ use Rattle.kung.specs.Operation.{Op, and, or, opCode, opAt, unit}
 use Rattle.kung.specs.Sets.{bit, has, meets}
 use Rattle.kung.specs.Members.{keep, onlyCode}
 use Rattle.kung.specs.Tables.{tab}
-use Rattle.kung.proofs.Finite.{ofCode-code}
 use Rattle.kung.proofs.Listed.{agree}
 use Rattle.search.specs.Search.{onlyOf, only, waits}
 use Rattle.checks.specs.Codes.{waitingOf, codeOr}
@@ -36,9 +35,6 @@ unit-code n = ap (λ m. 1 - m) (op-digit n) ∙ go (opAt n)
 pub code-ofCode : (n : ℕ) → code (ofCode n) ≡ n % 8
 unfolding ofCode tab
 code-ofCode n = agree (λ i. code (getD classes i c0)) (λ i. i) 8 refl (n % 8) (omega arith)
-
-pub code-small : (k : Class) → code k < 8
-code-small k = omega (arith, code-ofCode (code k), ap code (ofCode-code k))
 
 -- the number of a gate that waits
 pub waiter-code : (n p : ℕ) → waitingOf (8 * (n % 2) + p % 8) ≡ waits (opAt n) (ofCode p)

@@ -12,19 +12,18 @@ use lib.Seq.{getD-append-add}
 use Rattle.kung.specs.Class.{Class, c0, code, ofCode}
 use Rattle.kung.specs.Tables.{tab}
 use Rattle.kung.proofs.Finite.{ofCode-code}
-use Rattle.kung.proofs.Listed.{getD-tab}
+use Rattle.kung.proofs.Listed.{getD-tab, length-tab}
+use Rattle.kung.proofs.SetLaws.{code-lt}
 use Rattle.circuit.specs.Circuit.{Source, given, gate, pinsOf, sources}
 use Rattle.circuit.proofs.Laws.{sources-cases, sources-above}
 use Rattle.words.proofs.Laws.{words-length}
 use Rattle.records.specs.Records.{countAt}
 use Rattle.netlist.specs.Netlist.{inputsOf, gatesOf, placeOf, pinsBelow, pinTotal, cardOf}
 use Rattle.netlist.specs.Decoded.{Decoded}
-use Rattle.inputs.proofs.Laws.{tab-length}
 use Rattle.search.specs.Search.{search}
 use Rattle.search.specs.Pins.{sumBelow, pinsIn}
 use Rattle.search.proofs.Writes.{closed-all}
 use Rattle.search.proofs.Counts.{search-pins}
-use Rattle.checks.proofs.Codes.{code-small}
 use Rattle.visit.specs.Source.{sourceFrom}
 use Rattle.visit.specs.Lent.{inputsKnown}
 use Rattle.visit.specs.Cells.{Afresh}
@@ -80,21 +79,21 @@ module _ {repeated : Bool} (n rows : List ℕ) (d : Decoded repeated n rows) (v 
   codes = tab (λ i. code (v i)) 0 (inputsOf n)
 
   known-input : (i : ℕ) → i < inputsOf n → getD known i 0 ≡ code (v i)
-  known-input i h = List·getD-append codes _ 0 i (rw tab-length h) ∙ getD-tab (λ i. code (v i)) (inputsOf n) i h
+  known-input i h = List·getD-append codes _ 0 i (rw length-tab h) ∙ getD-tab (λ i. code (v i)) (inputsOf n) i h
 
   known-gate : (g : ℕ) → g < gatesOf n → getD known (inputsOf n + g) 0 ≡ 8
   known-gate g h =
-      rw (tab-length (λ i. code (v i)) 0 (inputsOf n)) at (getD-append-add codes (replicate (gatesOf n) 8) g 0)
+      rw (length-tab (λ i. code (v i)) 0 (inputsOf n)) at (getD-append-add codes (replicate (gatesOf n) 8) g 0)
       ∙ getD-replicate (gatesOf n) g 8 0 h
 
   known-past : (s : ℕ) → inputsOf n + gatesOf n ≤ s → getD known s 0 ≡ 0
-  known-past s h = List·getD-eq-default known 0 {n = s} (simp (length-append, tab-length, length-replicate) h)
+  known-past s h = List·getD-eq-default known 0 {n = s} (simp (length-append, length-tab, length-replicate) h)
 
   pub known-length : length known ≡ inputsOf n + gatesOf n
-  known-length = simp (length-append, tab-length, length-replicate)
+  known-length = simp (length-append, length-tab, length-replicate)
 
   pub known-below : (i : ℕ) → i < inputsOf n → getD known i 0 < 8
-  known-below i h = omega (arith, known-input i h, code-small (v i))
+  known-below i h = omega (arith, known-input i h, code-lt (v i))
 
   pub known-afresh : Afresh known
   known-afresh s = go (decLt s (inputsOf n)) (decLt s (inputsOf n + gatesOf n))

@@ -9,6 +9,7 @@ use lib.ListN.{length, take, drop, replicate, take-append-drop}
 use lib.Seq.{take-append-add, drop-at}
 use Rattle.kung.specs.Sets.{cleanSet, setOf}
 use Rattle.kung.specs.Lookup.{searchTable}
+use Rattle.kung.proofs.Listed.{length-tab}
 use Rattle.words.specs.Refusal.{refuse}
 use Rattle.netlist.specs.Netlist.{inputsOf, gatesOf}
 use Rattle.netlist.specs.Formed.{Formed}
@@ -21,7 +22,6 @@ use Rattle.changes.specs.Lent.{Accepts, signalsOf}
 use Rattle.changes.specs.Refusals.{listChecked}
 use Rattle.changes.proofs.Accepted.{listed}
 use Rattle.inputs.specs.Written.{inputCodes, codeAt}
-use Rattle.inputs.proofs.Laws.{tab-length}
 use Rattle.search.specs.Search.{clean, hazardous, Verdict, Answer, search}
 use Rattle.core.specs.declared.Cored.the-variants.{Refused}
 use Rattle.visit.specs.Source.{sourceFrom}
@@ -52,7 +52,7 @@ part-back n all back e = ap (λ k. k ++ drop n all) e ∙ take-append-drop n all
 pub none-again : (l : List ℕ) (w t i : ℕ) (old filled after : List ℕ) → NoneKnown i old → filled ≡ inputCodes l w t i ++ drop i old
     → length filled ≡ length old → after ≡ filled → NoneKnown i after
 none-again l w t i old filled after none e same is =
-    ap (drop i) (is ∙ e) ∙ drop-at (inputCodes l w t i) (drop i old) i (tab-length (codeAt l w t) 0 i) ∙ none
+    ap (drop i) (is ∙ e) ∙ drop-at (inputCodes l w t i) (drop i old) i (length-tab (codeAt l w t) 0 i) ∙ none
     ∙ ap (λ m. drop i (replicate m 8)) (sym (ap length is ∙ same))
 
 -- a change of an accepted list
@@ -74,7 +74,7 @@ module _ {repeated : Bool} (n l rows : List ℕ) (task : Task) (a : Accepts repe
       let g = task .shape .gates in
       let codes = inputCodes l (task .width) t i in
       let f = card-formed in
-      ap₂ take (ap (λ k. k + g) (sym (tab-length (codeAt l (task .width) t) 0 i))) e
+      ap₂ take (ap (λ k. k + g) (sym (length-tab (codeAt l (task .width) t) 0 i))) e
       ∙ take-append-add codes (drop i old) g
       ∙ ap (λ x. codes ++ x) (ap (take g) (none ∙ drop-replicate i (length old) 8) ∙ take-replicate g (length old - i) 8 (omega arith))
       ∙ (λ k. inputCodes l ((list-formed .width-is ∙ ap widthOf (f .inputs-are)) k) t (f .inputs-are k) ++ replicate (f .gates-are k) 8)

@@ -13,6 +13,7 @@ use Rattle.kung.specs.Rule.{gateClass}
 use Rattle.kung.specs.Sets.{has, cleanSet}
 use Rattle.kung.proofs.Finite.{ofCode-code}
 use Rattle.kung.proofs.SetLaws.{has-setOf, iff→≡}
+use Rattle.kung.proofs.Listed.{length-tab}
 use Rattle.circuit.proofs.Ends.{class-input, class-gate}
 use Rattle.words.specs.Refusal.{refuse}
 use Rattle.netlist.specs.Netlist.{inputsOf, gatesOf, outputsOf, outputAt, gateKind, gatePins, cardOf}
@@ -20,7 +21,6 @@ use Rattle.netlist.specs.Formed.{Formed}
 use Rattle.netlist.proofs.Accepted.{formed}
 use Rattle.changes.specs.declared.Listed.{Listed}
 use Rattle.changes.proofs.Accepted.{listed}
-use Rattle.inputs.proofs.Laws.{tab-length}
 use Rattle.simulate.specs.Full.{classIn, codes, left, fullAnswer, fullBuffer}
 use Rattle.simulate.specs.declared.Simulated.the-variants as simulated
 use Rattle.simulate.proofs.Theorems.{class-value, codes-length, codes-at}
@@ -65,7 +65,7 @@ module _ (n l : List ℕ) (change : ℕ) (a : Accepted n l change) where
 
   bytes-length : length (forwardBytes n l change) ≡ outputsOf n
   unfolding forwardBytes
-  bytes-length = tab-length (λ o. verdictByte ((outputSearch n l change o) .verdict)) 0 (outputsOf n)
+  bytes-length = length-tab (λ o. verdictByte ((outputSearch n l change o) .verdict)) 0 (outputsOf n)
 
   forward-byte : (buffer : List ℕ) (touched visited : ℕ) → forwardAnswer n l change buffer ≡ forwarded.Done touched visited
       → (output : ℕ) → output < outputsOf n → getD (forwardBuffer n l change buffer) output 0 ≡ getD (forwardBytes n l change) output 0

@@ -4,6 +4,7 @@ use mathlib.Core.Path.{_≡_, refl, sym, _∙_, ap}
 use mathlib.Core.List.{List, _++_}
 use borrow.Author.Tests.{le-leb, lt-leb, lt-ltb, le-ltb}
 use lib.ListN.{length, getD, drop, List·getD-append}
+use Rattle.kung.proofs.Listed.{length-tab}
 use Rattle.words.specs.Refusal.{refuse}
 use Rattle.netlist.specs.Netlist.{outputsOf}
 use Rattle.netlist.proofs.Accepted.{formed}
@@ -11,7 +12,6 @@ use Rattle.changes.specs.declared.Task.{Task}
 use Rattle.changes.specs.declared.Listed.the-variants as list
 use Rattle.changes.specs.Refusals.{listChecked}
 use Rattle.changes.proofs.Accepted.{listed}
-use Rattle.inputs.proofs.Laws.{tab-length}
 use Rattle.constants.specs.Change.{touchedIn}
 use Rattle.forward.specs.declared.Forwarded.the-variants.{Done, Refused}
 use Rattle.forward.specs.Forward.{forwardBytes, visitedIn, forwardFrom, forwardAnswer, forwardBuffer}
@@ -38,7 +38,7 @@ module _ (n l : List ℕ) (change : ℕ) (buffer : List ℕ) where
 
       bytes-length : length (forwardBytes n l change) ≡ o
       unfolding forwardBytes
-      bytes-length = tab-length _ 0 (outputsOf n) ∙ sym (formed n (listed n l e .netlist-accepted) .outputs-are)
+      bytes-length = length-tab _ 0 (outputsOf n) ∙ sym (formed n (listed n l e .netlist-accepted) .outputs-are)
 
       pub done : o ≤ length buffer → (touched visited : ℕ) → touched ≡ touchedIn n l change → visited ≡ visitedIn n l change → (exit : List ℕ)
           → exit ≡ forwardBytes n l change ++ drop o buffer

@@ -16,6 +16,7 @@ use Rattle.kung.specs.Sets.{cleanSet}
 use Rattle.kung.specs.Tables.{tab}
 use Rattle.kung.specs.Lookup.{searchTable}
 use Rattle.kung.proofs.Finite.{ofCode-code}
+use Rattle.kung.proofs.SetLaws.{code-lt}
 use Rattle.circuit.specs.Circuit.{Source, given, gate, outOf, value}
 use Rattle.circuit.proofs.Laws.{value-law, sources-cases}
 use Rattle.rows.specs.Rows.{rowKind, rowPins}
@@ -36,7 +37,6 @@ use Rattle.visit.specs.Cells.{Afresh}
 use Rattle.outputs.specs.Outputs.{verdictByte, searchFrom, byteFrom, sumFrom}
 use Rattle.outputs.specs.Lent.{OutputsReady}
 use Rattle.outputs.proofs.Ready.{output-is, outputs-ready}
-use Rattle.checks.proofs.Codes.{code-small}
 use Rattle.simulate.proofs.Laws.{filled-codes, filled-after}
 use Rattle.simulate.specs.Full.{classIn, codes}
 use Rattle.simulate.proofs.Theorems.{class-value, codes-length}
@@ -64,7 +64,7 @@ abbrev read : ℕ → Source Class → Source Class
 read b c = cond (ltb b 8) (given (ofCode b)) c
 
 read-given : (k : Class) (c : Source Class) → read (code k) c ≡ given k
-read-given k c = rw (lt-ltb (code k) 8 (code-small k), ofCode-code k)
+read-given k c = rw (lt-ltb (code k) 8 (code-lt k), ofCode-code k)
 
 read-known : (k : Class) (c : Source Class) → read (knownOr8 (code k)) c ≡ orKnown (constantOf k) c
 read-known k c = rw constant-code (go (isConstant k))
@@ -195,13 +195,13 @@ module _ (n l rows : List ℕ) (task : Task) (a : Accepts true n l rows task) (t
 
   -- an input's byte is a class, and a gate's is one or 8
   known-below : (s : ℕ) → s < i → getD known s 0 < 8
-  known-below s h = omega (arith, known-input s h, code-small (classIn n l t s))
+  known-below s h = omega (arith, known-input s h, code-lt (classIn n l t s))
 
   known-afresh : Afresh known
   known-afresh s = go (decLt s i) (decLt s (i + g))
     where
       few : (b : Bool) (k : Class) → cond b (code k) 8 ≤ 8
-      few true k = omega (arith, code-small k)
+      few true k = omega (arith, code-lt k)
       few false k = omega arith
 
       go : Dec (s < i) → Dec (s < i + g) → getD known s 0 ≤ 8

@@ -10,16 +10,12 @@ use lib.Bits.{bitXor}
 use lib.Dec.{eqb}
 use Rattle.kung.specs.Class.{code, inputClass}
 use Rattle.kung.specs.Tables.{tab}
+use Rattle.kung.proofs.Listed.{length-tab}
 use Rattle.words.specs.Words.{byteAt}
 use Rattle.changes.specs.Changes.{sizeOf, bitAt, inputClassAt}
 use Rattle.inputs.specs.Written.{codeAt, codeIn, written}
 
 module _ (f : ℕ → ℕ) where
-  pub tab-length : (i n : ℕ) → length (tab f i n) ≡ n
-  unfolding tab
-  tab-length i zero = refl
-  tab-length i (suc n) = ap suc (tab-length (suc i) n)
-
   tab-add : (i n m : ℕ) → tab f i (n + m) ≡ tab f i n ++ tab f (i + n) m
   unfolding tab
   tab-add i zero m = rw (zero-add, add-zero)
@@ -55,7 +51,7 @@ module _ (old : List ℕ) (at : ℕ) (f : ℕ → ℕ) where
   pub written-more : (n : ℕ) → at + n < length old → set (written old at f n) (at + n) (f n) ≡ written old at f (n + 1)
   unfolding written
   written-more n h =
-      let front : length (take at old ++ tab f 0 n) ≡ at + n = omega (arith, length-append (take at old) (tab f 0 n), length-take-le at old (omega arith), tab-length f 0 n) in
+      let front : length (take at old ++ tab f 0 n) ≡ at + n = omega (arith, length-append (take at old) (tab f 0 n), length-take-le at old (omega arith), length-tab f 0 n) in
       let next : at + (n + 1) ≡ suc (at + n) = omega arith in
       rw (← append-assoc (take at old) (tab f 0 n) (drop (at + n) old), drop-cons old (at + n) 0 h, set-at _ _ _ _ (at + n) front, tab-more f n, next)
       (simp append-assoc)
@@ -68,7 +64,7 @@ module _ (old : List ℕ) (at : ℕ) (f : ℕ → ℕ) where
         length-append (take at old) (tab f 0 n ++ drop (at + n) old),
         length-append (tab f 0 n) (drop (at + n) old),
         length-take-le at old (omega arith),
-        tab-length f 0 n,
+        length-tab f 0 n,
         length-drop (at + n) old,
       )
 
@@ -80,10 +76,10 @@ written-all old f n = rw zero-add
 behind : (old : List ℕ) (f g : ℕ → ℕ) (n m : ℕ) → ((k : ℕ) → k < m → f (n + k) ≡ g k)
     → written (tab f 0 n ++ drop n old) n g m ≡ tab f 0 (n + m) ++ drop (n + m) old
 unfolding written
-behind old f g n m e = rw (past, take-at (tab f 0 n) (drop n old) n (tab-length f 0 n), tab-add f 0 n m, zero-add n, same, append-assoc)
+behind old f g n m e = rw (past, take-at (tab f 0 n) (drop n old) n (length-tab f 0 n), tab-add f 0 n m, zero-add n, same, append-assoc)
   where
     past : drop (n + m) (tab f 0 n ++ drop n old) ≡ drop (n + m) old
-    past = rw (← drop-drop m n (tab f 0 n ++ drop n old), drop-at (tab f 0 n) (drop n old) n (tab-length f 0 n), drop-drop)
+    past = rw (← drop-drop m n (tab f 0 n ++ drop n old), drop-at (tab f 0 n) (drop n old) n (length-tab f 0 n), drop-drop)
 
     same : tab f n m ≡ tab g 0 m
     same = tab-ext f g n 0 m (λ k l. rw zero-add (e k l))

@@ -17,7 +17,7 @@ use Rattle.kung.proofs.Laws.{join-assoc, join-comm, join-idem, joinAll-
 use Rattle.kung.proofs.Finite.{everyClass, class-at, same→≡, beq→≡, T→≡, ≡→T}
 use Rattle.kung.proofs.Unions.{nested, digit, eqb-bit}
 
-code-lt : (k : Class) → code k < 8
+pub code-lt : (k : Class) → code k < 8
 unfolding everyClass
 code-lt k = ltb→lt (code k) 8 (class-at (λ k. ltb (code k) 8) tt k)
 

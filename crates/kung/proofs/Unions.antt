@@ -2,7 +2,7 @@
 use mathlib.Core.Path.{_≡_, refl, sym, _∙_, ap, ap₂}
 use mathlib.Core.Bool.{Bool, true, false, cond, _&&_, _||_}
 use mathlib.Core.List.{List, [], _∷_}
-use Prim.Native.Nat.{ℕ, zero, suc, _+_, _*_, _/_, _%_, _^_, _≤_, _<_}
+use Prim.Native.Nat.{ℕ, zero, suc, _+_, _*_, _/_, _%_, _^_, _<_}
 use native.Mathlib.Omega.{arith}
 use lib.Bits.{bitOr, or-block, or-shr, or-mod, or-shifted-r}
 use lib.Dec.{eqb, ltb}
@@ -141,14 +141,10 @@ pub one-class : (j : ℕ) → j < 8 → 2 ^ j ≡ setOf (same (getD classes j c0
 unfolding tab setOf
 one-class j h = agree (λ j. 2 ^ j) (λ j. setOf (same (getD classes j c0))) 8 refl j h
 
-pub bit-high : (b : Bool) → bit b ≤ 1
-bit-high true = omega arith
-bit-high false = omega arith
-
 -- a set is a byte
-set-byte : (f : Class → Bool) → setOf f < 256
+pub set-byte : (f : Class → Bool) → setOf f < 256
 unfolding setOf
-set-byte f = omega (arith, bit-high (f c0), bit-high (f c1), bit-high (f R), bit-high (f F), bit-high (f S0), bit-high (f S1), bit-high (f D+), bit-high (f D-))
+set-byte f = omega (arith, bit-lt (f c0), bit-lt (f c1), bit-lt (f R), bit-lt (f F), bit-lt (f S0), bit-lt (f S1), bit-lt (f D+), bit-lt (f D-))
 
 pub swap-small : (b : Bool) (m : ℕ) → swapIf b m < 256
 unfolding swapIf

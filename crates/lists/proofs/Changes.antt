@@ -12,7 +12,8 @@ use Rattle.kung.specs.Class.{Class}
 use Rattle.kung.specs.Rule.{some}
 use Rattle.kung.specs.Sets.{bit, cleanSet}
 use Rattle.kung.specs.Tables.{tab}
-use Rattle.kung.proofs.Unions.{bit-high}
+use Rattle.kung.proofs.Unions.{bit-lt}
+use Rattle.kung.proofs.Listed.{length-tab}
 use Rattle.circuit.specs.Circuit.{Card}
 use Rattle.netlist.specs.Netlist.{inputsOf, gatesOf, outputsOf, outputAt, cardOf}
 use Rattle.netlist.specs.Formed.{Formed}
@@ -24,7 +25,7 @@ use Rattle.changes.specs.Lent.{Accepts, signalsOf}
 use Rattle.changes.specs.Refusals.{listChecked}
 use Rattle.changes.proofs.Accepted.{listed}
 use Rattle.inputs.specs.Written.{written}
-use Rattle.inputs.proofs.Laws.{tab-length, written-all}
+use Rattle.inputs.proofs.Laws.{written-all}
 use Rattle.simulate.proofs.Theorems.{codes-length}
 use Rattle.search.specs.Search.{Answer, search}
 use Rattle.search.specs.Pins.{sumBelow}
@@ -54,7 +55,7 @@ touched-few : (card : Card) (known : ℕ → Option Class) → touched card know
 unfolding touched
 touched-few card known =
     le-trans
-    (sum-high (λ g. bit (some (λ x. isKnown (known x)) (card .pins g))) 1 (card .gates) (λ g h. bit-high (some (λ x. isKnown (known x)) (card .pins g))))
+    (sum-high (λ g. bit (some (λ x. isKnown (known x)) (card .pins g))) 1 (card .gates) (λ g h. omega (arith, bit-lt (some (λ x. isKnown (known x)) (card .pins g)))))
     (omega arith)
 
 -- a sum over the first c changes, which stays far below 64 bits
@@ -84,11 +85,11 @@ module _ {task : Task} (n l : List ℕ) (accepted : listChecked n l ≡ Accepted
 
   pub forward-regular : Regular (forwardOf n l) o
   unfolding forwardBytes
-  forward-regular = record { wide = card .outputs-are; each = λ t. tab-length _ 0 (outputsOf n) ∙ sym (card .outputs-are) }
+  forward-regular = record { wide = card .outputs-are; each = λ t. length-tab _ 0 (outputsOf n) ∙ sym (card .outputs-are) }
 
   pub core-regular : Regular (coreOf n l) o
   unfolding coreBytes
-  core-regular = record { wide = card .outputs-are; each = λ t. tab-length _ 0 (outputsOf n) ∙ sym (card .outputs-are) }
+  core-regular = record { wide = card .outputs-are; each = λ t. length-tab _ 0 (outputsOf n) ∙ sym (card .outputs-are) }
 
   pub touched-high : (c : ℕ) → touchedIn n l c ≤ 1179648
   unfolding touchedIn cardOf

@@ -15,15 +15,10 @@ use lib.Seq.{take-length, length-take-le, paste, paste-suc, getD-append-add, get
 use Rattle.kung.specs.Rule.{each}
 use Rattle.kung.specs.Sets.{bit}
 use Rattle.kung.specs.Tables.{tab}
-use Rattle.kung.proofs.Listed.{getD-tab}
-use Rattle.kung.proofs.Unions.{eqb-bit}
+use Rattle.kung.proofs.Listed.{getD-tab, length-tab}
+use Rattle.kung.proofs.Unions.{eqb-bit, bit-lt}
 use Rattle.words.specs.Words.{wordAt}
-use Rattle.making.specs.Making.{pinOr, eightAt, ownAt, ones, putAt}
-
-pub tab-length : (f : ℕ → ℕ) (i n : ℕ) → length (tab f i n) ≡ n
-unfolding tab
-tab-length f i zero = refl
-tab-length f i (suc n) = ap suc (tab-length f (suc i) n)
+use Rattle.making.specs.Making.{pinOr, eightAt, ones, putAt}
 
 -- the numbers of a list below a place are those of a rule; one more is
 abbrev pub Filled : (ℕ → ℕ) → List ℕ → (j : ℕ) → Type 0
@@ -37,7 +32,7 @@ filled-more f row j v h e r =
 
 pub filled-all : (f : ℕ → ℕ) (n : ℕ) (row : List ℕ) → length row ≡ n → Filled f row n → row ≡ tab f 0 n
 filled-all f n row e r =
-    ext-getD 0 row _ (e ∙ sym (tab-length f 0 n)) (λ k h. let l : k < n = omega arith in r k l ∙ sym (getD-tab f n k l))
+    ext-getD 0 row _ (e ∙ sym (length-tab f 0 n)) (λ k h. let l : k < n = omega arith in r k l ∙ sym (getD-tab f n k l))
 
 -- eight numbers, the pins and another past them
 pub eight-all : (s : List ℕ) (at count past : ℕ) (row : List ℕ) → length row ≡ 8 → Filled (pinOr s at count past) row 8 → row ≡ eightAt s at count past
@@ -46,7 +41,7 @@ eight-all s at count past row e r = filled-all _ 8 row e r
 
 pub eight-length : (s : List ℕ) (at count past : ℕ) → length (eightAt s at count past) ≡ 8
 unfolding eightAt
-eight-length s at count past = tab-length _ 0 8
+eight-length s at count past = length-tab _ 0 8
 
 pub eight-pin : (s : List ℕ) (at count past k : ℕ) → k < 8 → getD (eightAt s at count past) k 0 ≡ pinOr s at count past k
 unfolding eightAt
@@ -74,12 +69,8 @@ ones-at : (i : ℕ) → i < 16 → getD ones i 0 ≡ bit (ltb i 8)
 unfolding ones
 ones-at i h = getD-tab _ 16 i h
 
-bit-low : (b : Bool) → bit b ≤ 1
-bit-low true = omega arith
-bit-low false = omega arith
-
 pub ones-low : (i : ℕ) → i < 16 → getD ones i 0 ≤ 1
-ones-low i h = rw (ones-at i h) (bit-low (ltb i 8))
+ones-low i h = rw (ones-at i h) (omega (arith, bit-lt (ltb i 8)))
 
 window-own : (count j : ℕ) → count ≤ 8 → j < 8 → eqb (getD ones (8 - count + j) 0) 1 ≡ ltb j count
 window-own count j h l = rw (ones-at (8 - count + j) (omega arith), eqb-bit) (go (ltb (8 - count + j) 8) refl)

@@ -11,7 +11,7 @@ use lib.ListN.{length, getD, length-append, List·getD-append}
 use lib.Seq.{ext-getD, getD-at}
 use Rattle.kung.specs.Rule.{kindOf}
 use Rattle.kung.specs.Tables.{tab}
-use Rattle.kung.proofs.Listed.{getD-tab}
+use Rattle.kung.proofs.Listed.{getD-tab, length-tab}
 use Rattle.circuit.specs.Circuit.{gate, sources}
 use Rattle.circuit.proofs.Laws.{sources-cases, sources-input, sources-gate, sources-above}
 use Rattle.words.specs.Words.{wordAt, wordsAt}
@@ -19,7 +19,7 @@ use Rattle.words.proofs.Laws.{words-length, words-at}
 use Rattle.rows.specs.Rows.{countIn, pinIn, wordIn, kindIn, rowPins, cardIn, wordFor, outputIn}
 use Rattle.rows.specs.Lent.{GateRow, Repeats}
 use Rattle.making.specs.Making.{pastOf, rowPin, rowAt, putAt}
-use Rattle.making.proofs.Making.{tab-length, eight-length, eight-pin, pin-own, pin-past, length-put, put-own, put-before}
+use Rattle.making.proofs.Making.{eight-length, eight-pin, pin-own, pin-past, length-put, put-own, put-before}
 use Rattle.rows.proofs.Told.{Takes, word-count, word-kind}
 use Rattle.records.specs.Records.{kindAt, countAt, pinAt, leastPins, mostPins}
 use Rattle.records.specs.Reading.{wordOf}
@@ -116,8 +116,8 @@ takes (suc (suc (suc (suc (suc (suc (suc n))))))) count l h p q = absurd (omega 
 
 tab-words : (f : ℕ → ℕ) (n : ℕ) (s : List ℕ) (at : ℕ) → ((k : ℕ) → k < n → f k ≡ wordAt s (at + 2 * k)) → tab f 0 n ≡ wordsAt n s at
 tab-words f n s at h =
-    ext-getD 0 (tab f 0 n) (wordsAt n s at) (tab-length f 0 n ∙ sym (words-length n s at))
-    (λ k l. let m : k < n = rw (tab-length f 0 n) at l in getD-tab f n k m ∙ h k m ∙ sym (words-at n s at k m))
+    ext-getD 0 (tab f 0 n) (wordsAt n s at) (length-tab f 0 n ∙ sym (words-length n s at))
+    (λ k l. let m : k < n = rw (length-tab f 0 n) at l in getD-tab f n k m ∙ h k m ∙ sym (words-at n s at k m))
 
 module _ {shape : Shape} (repeated : Bool) (s old : List ℕ) (ok : checked s ≡ Accepted shape) (room : 9 * (shape .inputs + shape .gates) + shape .outputs ≤ length old) where
   form : Formed s shape

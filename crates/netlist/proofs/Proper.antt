@@ -1,14 +1,14 @@
 -- `checked` accepts exactly the proper bytes, and its refusal is the first condition met. Assumes nothing.
-use Prim.Native.Nat.{ℕ, zero, suc, _+_, _*_, _<_}
+use Prim.Native.Nat.{ℕ, zero, suc, _+_, _<_}
 use native.Mathlib.Omega.{arith}
 use native.Mathlib.Nat.{add-zero, zero-add}
 use mathlib.Core.Path.{_≡_, refl, sym, _∙_, ap}
 use mathlib.Core.Bool.{Bool, true, false}
 use mathlib.Core.List.{List, [], _∷_, _++_}
-use borrow.Author.Tests.{lt-leb, le-ltb, ltb-false, eqb-true, not-false}
+use borrow.Author.Tests.{le-ltb, ltb-false, eqb-true, not-false}
 use lib.ListN.{length}
 use Rattle.circuit.specs.Circuit.{Each}
-use Rattle.words.specs.Words.{wordAt, outside}
+use Rattle.words.specs.Words.{outside}
 use Rattle.words.specs.Refusal.{refuse}
 use Rattle.words.proofs.Laws.{inside}
 use Rattle.words.proofs.Refusal.{pass}
@@ -23,16 +23,9 @@ use Rattle.netlist.specs.Proper.{ProperRecord, Proper, Condition, when, 
 use Rattle.netlist.specs.Proper.{wordConditions, headConditions, recordConditions, recordsConditions, outputConditions, conditions}
 use Rattle.netlist.proofs.Refusals.{opening-pass, counts-inputs, counts-gates, counts-pass, body-within}
 use Rattle.netlist.proofs.Accepted.{formed}
+use Rattle.netlist.proofs.Together.{words-pass}
 
 -- proper bytes pass each step of the chain
-words-proper : (n : ℕ) (s : List ℕ) (at bound number : ℕ) (next : Checked) → ((k : ℕ) → k < n → wordAt s (at + 2 * k) < bound)
-    → wordsBelow n s at bound number next ≡ next
-unfolding wordsBelow
-words-proper zero s at bound number next h = refl
-words-proper (suc n) s at bound number next h =
-    pass _ _ _ _ _ (lt-leb bound (wordAt s at) (rw add-zero at (h 0 (omega arith))))
-    ∙ words-proper n s (at + 2) bound number next (λ k l. let e : at + 2 * suc k ≡ at + 2 + 2 * k = omega arith in rw e at (h (suc k) (omega arith)))
-
 record-proper : (s : List ℕ) (signal at : ℕ) (next : Checked) → ProperRecord s signal at → recordAt s signal at next ≡ next
 unfolding recordAt noKind
 record-proper s signal at next r =
@@ -40,7 +33,7 @@ record-proper s signal at next r =
     ∙ pass _ _ _ _ _ (inside 1 6 (kindAt s at) (r .kind-low) (r .kind-high))
     ∙ pass _ _ _ _ _ (inside (leastPins (kindAt s at)) (mostPins (kindAt s at)) (countAt s at) (r .count-low) (r .count-high))
     ∙ pass _ _ _ _ _ (le-ltb (length s) _ (r .room))
-    ∙ words-proper (countAt s at) s (at + 2) signal 8 next (r .pin-below)
+    ∙ words-pass (countAt s at) s (at + 2) signal 8 next (r .pin-below)
 
 records-proper : (n g : ℕ) (s : List ℕ) (next : Checked) → ((k : ℕ) → k < n → ProperRecord s (inputsOf s + (g + k)) (placeOf s (g + k)))
     → recordsFrom n g s next ≡ next
@@ -54,7 +47,7 @@ outputs-proper : (s : List ℕ) (next : Checked) → Proper s → outputs s next
 unfolding outputs
 outputs-proper s next p =
     pass _ _ _ _ _ (le-ltb (length s) (outputsEnd s) (omega (arith, p .whole)))
-    ∙ words-proper (outputsOf s) s (entriesAt s) (inputsOf s + gatesOf s) 9 _ (p .output-below)
+    ∙ words-pass (outputsOf s) s (entriesAt s) (inputsOf s + gatesOf s) 9 _ (p .output-below)
     ∙ pass _ _ _ _ _ (le-ltb (outputsEnd s) (length s) (omega (arith, p .whole)))
 
 pub proper→accepted : (s : List ℕ) → Proper s → checked s ≡ accepted s

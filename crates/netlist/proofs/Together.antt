@@ -31,7 +31,7 @@ each-at f (x ∷ xs) (suc k) e h = each-at f xs k (right (f x) (each f xs) e) (o
     right false true e = refl
     right false false e = e
 
-words-pass : (n : ℕ) (s : List ℕ) (at bound number : ℕ) (next : Checked) → ((k : ℕ) → k < n → wordAt s (at + 2 * k) < bound) → wordsBelow n s at bound number next ≡ next
+pub words-pass : (n : ℕ) (s : List ℕ) (at bound number : ℕ) (next : Checked) → ((k : ℕ) → k < n → wordAt s (at + 2 * k) < bound) → wordsBelow n s at bound number next ≡ next
 unfolding wordsBelow
 words-pass zero s at bound number next h = refl
 words-pass (suc n) s at bound number next h =

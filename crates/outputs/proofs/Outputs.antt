@@ -5,19 +5,19 @@ use native.Mathlib.Nat.{zero-add, add-comm, le-trans}
 use native.Mathlib.Decide.{decLt}
 use native.Mathlib.Numerals.{add-one}
 use mathlib.Core.Path.{_≡_, refl, _∙_, ap, ap₂}
-use mathlib.Core.Bool.{Bool, true, false, cond}
-use mathlib.Core.List.{List, [], _∷_}
-use lib.Dec.{ltb}
+use mathlib.Core.Bool.{true}
+use mathlib.Core.List.{List}
 use lib.ListN.{length, getD, set, length-replicate}
 use Rattle.kung.specs.Class.{Class}
 use Rattle.kung.specs.Sets.{setOf}
 use Rattle.kung.specs.Operation.{opOf, unit}
+use Rattle.kung.proofs.Listed.{length-tab}
 use Rattle.circuit.specs.Circuit.{Source, given, gate, pinsOf}
 use Rattle.rows.specs.Rows.{rowPins, outputIn}
 use Rattle.inputs.specs.Written.{written}
-use Rattle.inputs.proofs.Laws.{written-more, tab-length}
+use Rattle.inputs.proofs.Laws.{written-more}
 use Rattle.search.specs.Search as search
-use Rattle.search.specs.Search.{Answer, answerOf, search, visit, endFrom, fresh, nobody, total, gatesVisited}
+use Rattle.search.specs.Search.{Answer, answerOf, search, visit, endFrom, fresh, nobody}
 use Rattle.search.specs.Pins.{sumBelow, pinsIn}
 use Rattle.search.proofs.Writes.{visit-length, closed-all}
 use Rattle.search.proofs.Counts.{search-pins}
@@ -26,19 +26,11 @@ use Rattle.visit.specs.Found.{foundOf, verdictCode}
 use Rattle.visit.specs.Lent.{SearchReady}
 use Rattle.visit.specs.declared.Found.{Found}
 use Rattle.visit.proofs.Sources.{source-given, source-gate}
+use Rattle.visit.proofs.Totals.{gates-few}
 use Rattle.outputs.specs.Outputs.{verdictByte, searchFrom, byteFrom, sumFrom}
 use Rattle.outputs.specs.Codes.{foundByte}
 
 -- a search visits no more gates than it has cells
-visited-few : (cells : List ℕ) → gatesVisited cells ≤ length cells
-unfolding total
-visited-few [] = omega arith
-visited-few (b ∷ cells) = go (ltb b 128) (visited-few cells)
-  where
-    go : (new : Bool) → gatesVisited cells ≤ length cells → cond new 0 1 + gatesVisited cells ≤ suc (length cells)
-    go true h = omega arith
-    go false h = omega arith
-
 pub search-few : (src : ℕ → Source Class) (w s : ℕ) → (search src w s) .gates ≤ suc s
 unfolding search
 search-few src w s = go (src s)
@@ -48,7 +40,7 @@ search-few src w s = go (src s)
     go (gate d ps) =
         omega (
           arith,
-          visited-few (visit src (suc s) s (unit (opOf d)) 0 w nobody (fresh (suc s)) .1),
+          gates-few (visit src (suc s) s (unit (opOf d)) 0 w nobody (fresh (suc s)) .1),
           visit-length src (suc s) s (unit (opOf d)) 0 w nobody (fresh (suc s)),
           length-replicate {A = ℕ} (suc s) 0,
         )
@@ -61,7 +53,7 @@ module _ {table rows known : List ℕ} (r : SearchReady table rows known) where
     where
       go : Dec (getD known s 0 < 8) → length (pinsOf (sourceFrom rows known s)) ≤ 8
       go (yes h) = rw (source-given rows known s h) (omega arith)
-      go (no h) = rw (source-gate rows known s (omega arith)) (rw tab-length (r .gates-only s (omega arith) .count-eight))
+      go (no h) = rw (source-gate rows known s (omega arith)) (rw length-tab (r .gates-only s (omega arith) .count-eight))
 
   sum-few : (n : ℕ) → pinsIn (sourceFrom rows known) (λ s. true) n ≤ 8 * n
   unfolding sumBelow

@@ -2,36 +2,32 @@
 use Prim.Native.Nat.{ℕ, _/_, _%_, _≤_}
 use native.Mathlib.Omega.{arith}
 use mathlib.Core.Path.{_≡_, refl}
-use mathlib.Core.Bool.{Bool, true, false, cond}
+use mathlib.Core.Bool.{cond}
 use borrow.Author.Tests.{ne-eqb}
 use lib.Dec.{eqb}
 use Rattle.kung.specs.Rule.{Kind, NOT, BUFFER, AND, OR, NAND, NOR}
 use Rattle.kung.specs.Operation.{Op, and, or, opOf, opCode, inverts}
 use Rattle.kung.specs.Sets.{bit}
-use Rattle.kung.proofs.Unions.{eqb-bit}
+use Rattle.kung.proofs.Unions.{eqb-bit, bit-lt}
 use Rattle.rows.specs.Rows.{wordFor, countIn, invertsIn, kindIn}
 
 op-low : (o : Op) → opCode o ≤ 1
 op-low and = omega arith
 op-low or = omega arith
 
-bit-low : (b : Bool) → bit b ≤ 1
-bit-low true = omega arith
-bit-low false = omega arith
-
 -- its three parts
 module _ (d : Kind) (count : ℕ) where
   pub word-count : countIn (wordFor d count) ≡ count
   unfolding wordFor
-  word-count = omega (arith, op-low (opOf d), bit-low (inverts d))
+  word-count = omega (arith, op-low (opOf d), bit-lt (inverts d))
 
   pub word-operation : wordFor d count % 2 ≡ opCode (opOf d)
   unfolding wordFor
-  word-operation = omega (arith, op-low (opOf d), bit-low (inverts d))
+  word-operation = omega (arith, op-low (opOf d), bit-lt (inverts d))
 
   word-bit : wordFor d count % 4 / 2 ≡ bit (inverts d)
   unfolding wordFor
-  word-bit = omega (arith, op-low (opOf d), bit-low (inverts d))
+  word-bit = omega (arith, op-low (opOf d), bit-lt (inverts d))
 
   pub word-inverts : invertsIn (wordFor d count) ≡ inverts d
   word-inverts = rw word-bit (eqb-bit (inverts d))

@@ -4,33 +4,29 @@ use native.Mathlib.Omega.{arith}
 use native.Mathlib.Numerals.{add-one}
 use native.Mathlib.Decide.{decLt, ℕ-discrete}
 use mathlib.Core.Path.{_≡_, refl, sym, _∙_, ap}
-use mathlib.Core.Bool.{Bool, true, false, cond, _&&_, and-eq-true-iff}
+use mathlib.Core.Bool.{Bool, true, false, cond}
 use mathlib.Core.List.{List, [], _∷_, _++_}
 use mathlib.Core.Option.{some}
-use lib.Dec.{eqb, ltb, ltb→lt}
+use lib.Dec.{eqb, ltb}
 use lib.ListN.{length, getD, drop, length-set, length-replicate, getD-replicate, List·getD-eq-default}
 use lib.Seq.{getD-set-same, getD-set-other, drop-drop}
 use borrow.Author.Tests.{eqb-true, ltb-true, le-ltb}
 use Rattle.kung.specs.Class.{Class, c0, c1, R, F, S0, S1, D+, D-, classes, code, ofCode, same}
 use Rattle.kung.specs.Rule.{Kind, some as someOf}
 use Rattle.kung.specs.Operation.{inverts, invertIf}
-use Rattle.kung.specs.Sets.{setOf, has, meets, possible}
+use Rattle.kung.specs.Sets.{setOf, has, possible}
 use Rattle.kung.proofs.Finite.{implies, implied, same→≡, ofCode-code, everyClass, class-at, ≡→T}
-use Rattle.kung.proofs.SetLaws.{some-elim}
+use Rattle.kung.proofs.SetLaws.{code-lt}
 use Rattle.circuit.specs.Circuit.{Each}
 use Rattle.search.specs.Search.{Cell, new, kept, byteOf, nextOf, cellOf, put, fresh, total, onlyOf, only, possibleOf}
 
-code-below : (k : Class) → code k < 8
-unfolding everyClass
-code-below k = ltb→lt (code k) 8 (class-at (λ k. ltb (code k) 8) tt k)
-
 pub nextOf-byteOf : (p : Class) (i : ℕ) → nextOf (byteOf (kept p i)) ≡ i
-nextOf-byteOf p i = omega (arith, code-below p)
+nextOf-byteOf p i = omega (arith, code-lt p)
 
 pub ofCode-byteOf : (p : Class) (i : ℕ) → ofCode (byteOf (kept p i)) ≡ p
 unfolding ofCode
 ofCode-byteOf p i =
-    let e : (128 + 8 * i + code p) % 8 ≡ code p % 8 = omega (arith, code-below p) in
+    let e : (128 + 8 * i + code p) % 8 ≡ code p % 8 = omega (arith, code-lt p) in
     rw e (ofCode-code p)
 
 -- a cell is what its byte says
@@ -139,14 +135,6 @@ not-has w k h = go (has w k) h
     go : (b : Bool) → (b ≡ true → ⊥) → b ≡ false
     go true h = absurd (h refl)
     go false h = refl
-
--- sets that share a class
-pub meets-elim : (m n : ℕ) → meets m n ≡ true → (k : Class) × (has m k ≡ true) × (has n k ≡ true)
-unfolding meets
-meets-elim m n e =
-    let found = some-elim (λ k. has m k && has n k) classes e in
-    let both = and-eq-true-iff (has m (found .0)) (has n (found .0)) .0 (found .1) in
-    (found .0, both .0, both .1)
 
 -- the pins left after one more
 pub drop-next : (next : ℕ) (ps : List ℕ) (x : ℕ) (left : List ℕ) → drop next ps ≡ x ∷ left → drop (suc next) ps ≡ left

@@ -12,11 +12,11 @@ use Rattle.kung.specs.Rule.{Kind, gateClass}
 use Rattle.kung.specs.Operation.{Op, opOf, inverts, invertIf, join, joinAll, unit}
 use Rattle.kung.specs.Sets.{has, meets, image, possible, wantedFor, cleanSet}
 use Rattle.kung.proofs.Laws.{joinAll-cons, joinAll-nil, join-unit, join-unit-right, join-assoc, gateClass-op}
-use Rattle.kung.proofs.SetLaws.{has-setOf, in-image, in-possible, meets-intro}
+use Rattle.kung.proofs.SetLaws.{has-setOf, in-image, in-possible, meets-intro, meets-elim}
 use Rattle.circuit.specs.Circuit.{Source, given, gate, value, Each, Falling}
 use Rattle.circuit.proofs.Laws.{value-law}
 use Rattle.search.specs.Search.{Cell, new, kept, cellOf, cellAt, put, fresh, possibleOf, pinsLeft, only, Waiting, nobody, waits, Outcome, stopped, known, unfinished, sameResult, knownOr, checks, toldOr, driverOf, Ended, Visit, fetch, react, endOr, takePin, takePins, arrive, visit, clean, hazardous, judged, verdictOf, answerOf, endFrom, search}
-use Rattle.search.proofs.Laws.{at-put, cellOf-byteOf, put-other, only-has, only-last, not-has, meets-elim, drop-next, each-drop, fresh-at}
+use Rattle.search.proofs.Laws.{at-put, cellOf-byteOf, put-other, only-has, only-last, not-has, drop-next, each-drop, fresh-at}
 
 -- what the waiting gate's p joined with the class k is
 abbrev Result : Waiting → Class → Class → Type 0

@@ -4,13 +4,13 @@ use native.Mathlib.Omega.{arith}
 use mathlib.Core.Path.{_≡_, refl, sym, _∙_, ap, ap₂}
 use mathlib.Core.Bool.{true}
 use mathlib.Core.List.{List, _++_, map}
-use lib.Dec.{ltb, ltb→lt}
 use lib.ListN.{length, getD, drop, length-append, length-drop, List·getD-append}
 use lib.Seq.{drop-append-add, drop-drop}
-use Rattle.kung.specs.Class.{Class, c0, code, ofCode}
+use Rattle.kung.specs.Class.{c0, code, ofCode}
 use Rattle.kung.specs.Rule.{gateClass}
-use Rattle.kung.proofs.Finite.{ofCode-code, everyClass, class-at}
-use Rattle.kung.proofs.Listed.{getD-tab}
+use Rattle.kung.proofs.Finite.{ofCode-code}
+use Rattle.kung.proofs.Listed.{getD-tab, length-tab}
+use Rattle.kung.proofs.SetLaws.{code-lt}
 use Rattle.circuit.specs.Circuit.{sources, values}
 use Rattle.circuit.proofs.Laws.{sources-ext}
 use Rattle.rows.specs.Rows.{cardIn}
@@ -25,14 +25,9 @@ use Rattle.changes.specs.Formed.{ListFormed}
 use Rattle.changes.specs.Lent.{Accepts, signalsOf}
 use Rattle.changes.proofs.Accepted.{listed}
 use Rattle.inputs.specs.Written.{inputCodes, codeAt}
-use Rattle.inputs.proofs.Laws.{tab-length}
 use Rattle.sweep.specs.Sweep.{sourcesIn, codesOf}
 use Rattle.sweep.specs.Lent.{Passable}
 use Rattle.simulate.specs.Full.{codes}
-
-code-lt : (k : Class) → code k < 8
-unfolding everyClass
-code-lt k = ltb→lt (code k) 8 (class-at (λ k. ltb (code k) 8) tt k)
 
 module _ (n l rows : List ℕ) (task : Task) (a : Accepts true n l rows task) (t : ℕ) (old : List ℕ) where
   list-formed : ListFormed n l task
@@ -52,7 +47,7 @@ module _ (n l rows : List ℕ) (task : Task) (a : Accepts true n l rows task) (t
 
   input-at : (i : ℕ) → i < inputs → getD filled i 0 ≡ code (inputClassAt l (task .width) t i)
   input-at i h =
-      List·getD-append (inputCodes l (task .width) t inputs) (drop inputs old) 0 i (rw tab-length h) ∙ getD-tab (codeAt l (task .width) t) inputs i h
+      List·getD-append (inputCodes l (task .width) t inputs) (drop inputs old) 0 i (rw length-tab h) ∙ getD-tab (codeAt l (task .width) t) inputs i h
 
   -- the buffer can be passed
   pub filled-passable : (now : List ℕ) → now ≡ filled → (hots : ℕ) → signalsOf (task .shape) ≤ length old → signalsOf (task .shape) ≤ hots
@@ -64,7 +59,7 @@ module _ (n l rows : List ℕ) (task : Task) (a : Accepts true n l rows task) (t
         gates-high = card .gates-high;
         gate = λ g h. row g h;
         repeats = λ g h. again g h;
-        room = omega (arith, length-append (inputCodes l (task .width) t inputs) (drop inputs old), tab-length (codeAt l (task .width) t) 0 inputs, length-drop inputs old);
+        room = omega (arith, length-append (inputCodes l (task .width) t inputs) (drop inputs old), length-tab (codeAt l (task .width) t) 0 inputs, length-drop inputs old);
         hot-room = hot;
         coded = λ i h. rw (input-at i h) (code-lt (inputClassAt l (task .width) t i));
       })
@@ -95,7 +90,7 @@ module _ (n l rows : List ℕ) (task : Task) (a : Accepts true n l rows task) (t
   -- what stands after the signals stays
   pub filled-after : drop (signalsOf (task .shape)) filled ≡ drop (signalsOf (task .shape)) old
   filled-after =
-      ap (λ n. drop (n + gates) filled) (sym (tab-length (codeAt l (task .width) t) 0 inputs))
+      ap (λ n. drop (n + gates) filled) (sym (length-tab (codeAt l (task .width) t) 0 inputs))
       ∙ drop-append-add (inputCodes l (task .width) t inputs) (drop inputs old) gates ∙ drop-drop gates inputs old
 
   pub swept : (now : List ℕ) → now ≡ filled → (exit : List ℕ)

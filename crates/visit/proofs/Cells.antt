@@ -11,13 +11,14 @@ use lib.ListN.{length, getD, set, drop, List·getD-map}
 use borrow.Author.Tests.{lt-ltb, ltb-true, ltb-false}
 use Rattle.kung.specs.Class.{Class, code, ofCode}
 use Rattle.kung.specs.Operation.{invertIf}
+use Rattle.kung.proofs.SetLaws.{code-lt}
 use Rattle.rows.specs.Rows.{invertsIn, wordIn, rowKind, rowPins}
 use Rattle.search.specs.Search.{byteOf, cellOf, cellAt, put, possibleOf, only, toldOr, driverOf}
 use Rattle.search.proofs.Laws.{cellOf-byteOf}
 use Rattle.checks.specs.Codes.{codeOr}
 use Rattle.cells.specs.Codes.{markOf}
 use Rattle.cells.specs.Cells.{cellIn, knownOf, knownIn, toldIn}
-use Rattle.checks.proofs.Codes.{code-small, code-ofCode}
+use Rattle.checks.proofs.Codes.{code-ofCode}
 use Rattle.checks.proofs.Checks.{only-own}
 use Rattle.cells.proofs.Cells.{cell-new, cell-open, cell-known, known-small, mark-cell, mark-told, mark-large, fresh-known-of}
 use Rattle.visit.specs.Source.{signalOf, sourceFrom}
@@ -68,10 +69,10 @@ module _ (rows bytes : List ℕ) where
         go false e true d =
             let b = getD bytes s 0 in
             let less = ltb-true b 128 d in
-            rw (cell-open Inverts b (ltb-false b 16 e) less) (omega (arith, code-small (ofCode b)))
+            rw (cell-open Inverts b (ltb-false b 16 e) less) (omega (arith, code-lt (ofCode b)))
         go false e false d =
             let b = getD bytes s 0 in
-            rw (cell-known Inverts b (ltb-false b 128 d)) (omega (arith, code-small (invertIf Inverts (ofCode b))))
+            rw (cell-known Inverts b (ltb-false b 128 d)) (omega (arith, code-lt (invertIf Inverts (ofCode b))))
 
     pub cells-set : (b : ℕ) → cellsIn rows (set bytes s b) ≡ put (cellsIn rows bytes) s (cellIn Inverts b)
     cells-set b =

@@ -1,5 +1,5 @@
 pub mod Sources
-mod Totals
+pub mod Totals
 mod Cells
 mod Visits
 mod Turns

@@ -10,6 +10,7 @@ use borrow.Author.Tests.{lt-ltb}
 use borrow.Rule.Slice.PartMut.{midOf, postOf, putMid, post-is, mid-len, put-same}
 use Rattle.kung.specs.Class.{Class, code, ofCode}
 use Rattle.kung.specs.Operation.{opOf, unit}
+use Rattle.kung.proofs.SetLaws.{code-lt}
 use Rattle.circuit.specs.Circuit.{Source, Falling}
 use Rattle.rows.specs.Rows.{rowKind, invertsIn, wordIn}
 use Rattle.search.specs.Search.{byteOf, fresh, total, visitedOf, nextOf, cellAt, cellOf, nobody, Outcome, stopped, known, unfinished, driverOf, Ended, takePin, visit, judged, verdictOf, visited, answerOf, endFrom, search}
@@ -17,7 +18,6 @@ use Rattle.search.proofs.Laws.{fresh-at, total-fresh}
 use Rattle.search.proofs.Same.{search-any}
 use Rattle.checks.specs.Codes.{waitingOf, endingOf}
 use Rattle.cells.specs.Cells.{knownOf, knownIn}
-use Rattle.checks.proofs.Codes.{code-small}
 use Rattle.cells.proofs.Cells.{cell-new, known-small, fresh-known-of}
 use Rattle.visit.specs.declared.Verdict.{Verdict}
 use Rattle.visit.specs.declared.Found.{Found}
@@ -38,7 +38,7 @@ search-given rows codes w s given verdict e = rw (source-given rows codes s give
 
 verdict-ended : (e : Outcome) → verdictFrom (endingOf nobody e) ≡ verdictCode (verdictOf e)
 verdict-ended stopped = refl
-verdict-ended (known k) = rw (lt-ltb (code k) 8 (code-small k))
+verdict-ended (known k) = rw (lt-ltb (code k) 8 (code-lt k))
 verdict-ended (unfinished r) = refl
 
 -- bytes of which none is visited

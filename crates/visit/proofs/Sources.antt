@@ -12,7 +12,7 @@ use Rattle.kung.specs.Class.{ofCode}
 use Rattle.kung.specs.Rule.{NOT, BUFFER, AND, OR, NAND, NOR}
 use Rattle.kung.specs.Operation.{and, or, opOf, opAt, inverts}
 use Rattle.kung.specs.Tables.{tab}
-use Rattle.kung.proofs.Listed.{getD-tab}
+use Rattle.kung.proofs.Listed.{getD-tab, length-tab}
 use Rattle.circuit.specs.Circuit.{given, gate, pinsOf, Each, Falling}
 use Rattle.rows.specs.Rows.{kindIn, countIn, gateIn, invertsIn, pinIn, wordIn, rowKind, rowPins}
 use Rattle.visit.specs.Source.{signalOf, sourceFrom}
@@ -57,14 +57,9 @@ module _ (word : ℕ) where
   gate-operation = let e : word % 4 % 2 ≡ word % 2 = omega arith in ap (λ (x : ℕ). cond (eqb x 0) and or) e ∙ operation-is
 
 -- a gate's pins
-tab-length : (f : ℕ → ℕ) (i n : ℕ) → length (tab f i n) ≡ n
-unfolding tab
-tab-length f i zero = refl
-tab-length f i (suc n) = ap suc (tab-length f (suc i) n)
-
 pub pins-length : (rows : List ℕ) (s : ℕ) → length (rowPins rows s) ≡ countIn (wordIn rows s)
 unfolding rowPins
-pins-length rows s = tab-length (pinIn rows s) 0 (countIn (wordIn rows s))
+pins-length rows s = length-tab (pinIn rows s) 0 (countIn (wordIn rows s))
 
 pub pin-is : (rows : List ℕ) (s k : ℕ) → k < countIn (wordIn rows s) → pinIn rows s k ≡ getD (rowPins rows s) k 0
 unfolding rowPins

@@ -14,6 +14,7 @@ use Rattle.kung.specs.Operation.{Op, opOf, opAt, inverts, join, unit}
 use Rattle.kung.specs.Sets.{possible, wantedFor}
 use Rattle.kung.specs.Lookup.{joinedBy}
 use Rattle.kung.proofs.Finite.{ofCode-code}
+use Rattle.kung.proofs.SetLaws.{code-lt}
 use Rattle.circuit.specs.Circuit.{gate, Falling}
 use Rattle.rows.specs.Rows.{countIn, gateIn, invertsIn, wordIn, rowKind, rowPins}
 use Rattle.search.specs.Search.{Cell, kept, cellAt, put, possibleOf, pinsLeft, only, Waiting, nobody, waits, Outcome, stopped, known, unfinished, checks, Driver, told, behind, toldOr, driverOf, Ended, fetch, react, takePin, takePins, visit}
@@ -22,7 +23,6 @@ use Rattle.search.proofs.Same.{take-put}
 use Rattle.checks.specs.Codes.{waitingOf, endingOf, checkOf}
 use Rattle.cells.specs.Codes.{begunFrom}
 use Rattle.cells.specs.Cells.{cellIn, knownIn, toldIn}
-use Rattle.checks.proofs.Codes.{code-small}
 use Rattle.checks.proofs.Checks.{joins, ended, ended-by, goes-on, stops}
 use Rattle.cells.proofs.Cells.{cell-new, cell-open, known-small, same-code, told-class, untold-between, untold-searched}
 use Rattle.visit.specs.Source.{signalOf, sourceFrom}
@@ -37,16 +37,16 @@ reacts : (e : Outcome) (after : List ℕ) (o : Op) (p : Class) (goOn : Class →
     → react e after o p goOn ≡ cond (ltb (endingOf (waits o p) e) 8) (goOn (ofCode (endingOf (waits o p) e)) after) (stopped, after)
 reacts stopped after o p goOn = refl
 reacts (known k) after o p goOn =
-    rw (lt-ltb (code (join o p k)) 8 (code-small (join o p k))) (ap (λ q. goOn q after) (sym (ofCode-code (join o p k))))
-reacts (unfinished r) after o p goOn = rw (lt-ltb (code r) 8 (code-small r)) (ap (λ q. goOn q after) (sym (ofCode-code r)))
+    rw (lt-ltb (code (join o p k)) 8 (code-lt (join o p k))) (ap (λ q. goOn q after) (sym (ofCode-code (join o p k))))
+reacts (unfinished r) after o p goOn = rw (lt-ltb (code r) 8 (code-lt r)) (ap (λ q. goOn q after) (sym (ofCode-code r)))
 
 ending-small : (wt : Waiting) (e : Outcome) → endingOf wt e ≤ 8
 ending-small nobody stopped = omega arith
-ending-small nobody (known k) = omega (arith, code-small k)
+ending-small nobody (known k) = omega (arith, code-lt k)
 ending-small nobody (unfinished r) = omega arith
 ending-small (waits o p) stopped = omega arith
-ending-small (waits o p) (known k) = omega (arith, code-small (join o p k))
-ending-small (waits o p) (unfinished r) = omega (arith, code-small r)
+ending-small (waits o p) (known k) = omega (arith, code-lt (join o p k))
+ending-small (waits o p) (unfinished r) = omega (arith, code-lt r)
 
 -- how the taking of a pin on signal x ends, over the definition's cells
 abbrev pub Ends : (rows known : List ℕ) (x wanted waiter : ℕ) (entry exit : List ℕ) (r : ℕ) → Type 0
@@ -134,7 +134,7 @@ module _ (rows : List ℕ) (s w waiter : ℕ) (bytes : List ℕ) (untold : toldI
       ∙ go (ltb Byte 16) refl
     where
       seen : (one : Option Class) (p : Class) (next : ℕ) → toldOf (toldOr one p next) ≡ 8 → toldOr one p next ≡ behind p next
-      seen (some k) p next e = absurd (omega (arith, code-small k))
+      seen (some k) p next e = absurd (omega (arith, code-lt k))
       seen none p next e = refl
 
       Inverts₁ : Bool
@@ -145,7 +145,7 @@ module _ (rows : List ℕ) (s w waiter : ℕ) (bytes : List ℕ) (untold : toldI
           ≡ behind (ofCode (cond t (16 + code (unit (opAt (gateIn (wordIn rows s))))) Byte)) (cond t (16 + code (unit (opAt (gateIn (wordIn rows s))))) Byte / 8 - 2)
       go true e =
           let u = unit (opAt (gateIn (wordIn rows s))) in
-          let small : code u < 8 = code-small u in
+          let small : code u < 8 = code-lt u in
           let pin : (16 + code u) / 8 - 2 ≡ 0 = omega arith in
           ap (driverOf (gate (rowKind rows s) (rowPins rows s))) (cell-new Inverts₁ Byte (ltb-true Byte 16 e))
           ∙ ap (λ o. behind (unit o) 0) (sym (gate-operation (wordIn rows s)))

@@ -1,4 +1,4 @@
--- `cells::check_known` meets its contract. Assumes nothing.
+-- `checks::check_known` meets its contract. Assumes nothing.
 use mathlib.Core.Path.{sym, _∙_}
 use borrow.Author.Needs.{needs}
 use Rattle.checks.proofs.check_known.Statement.{statement}

@@ -1,4 +1,4 @@
--- `cells::check_set` meets its contract. Assumes nothing.
+-- `checks::check_set` meets its contract. Assumes nothing.
 use mathlib.Core.Path.{_∙_, ap}
 use native.Mathlib.Omega.{arith}
 use Rattle.kung.specs.Class.{code, ofCode}

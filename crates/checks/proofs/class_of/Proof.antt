@@ -1,4 +1,4 @@
--- `cells::class_of` meets its contract. Assumes nothing.
+-- `checks::class_of` meets its contract. Assumes nothing.
 use mathlib.Core.Path.{_≡_, refl}
 use Prim.Native.Nat.{ℕ, zero, suc, _/_, _%_, _<_}
 use native.Mathlib.Omega.{arith}

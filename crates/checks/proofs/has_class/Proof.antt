@@ -1,4 +1,4 @@
--- `cells::has_class` meets its contract. Assumes nothing.
+-- `checks::has_class` meets its contract. Assumes nothing.
 use borrow.Author.Needs.{needs}
 use Rattle.kung.specs.Sets.{has}
 use Rattle.checks.proofs.Codes.{code-ofCode}

@@ -1,4 +1,4 @@
--- `cells::same_result_of` meets its contract. Assumes nothing.
+-- `checks::same_result_of` meets its contract. Assumes nothing.
 use mathlib.Core.Path.{_∙_, ap}
 use native.Mathlib.Omega.{arith}
 use borrow.Author.Needs.{needs}

@@ -27,7 +27,7 @@ use Rattle.search.specs.Search.{Cell, kept, put, only, Outcome, checks, waits}
 use Rattle.checks.specs.Codes.{waitingOf, codeOr, checkOf}
 use Rattle.cells.specs.Codes.{begunFrom, markOf}
 use Rattle.cells.specs.Cells.{cellIn, knownIn, toldIn}
-use Rattle.checks.proofs.Codes.{code-small, only-code}
+use Rattle.checks.proofs.Codes.{only-code}
 use Rattle.checks.proofs.Checks.{ended, over, wants, last-class, last-ends, last-is}
 use Rattle.cells.proofs.Cells.{open-cell, told-small, untold-searched, begun-next}
 use Rattle.visit.specs.Cells.{cellsIn, Marks}
@@ -56,6 +56,7 @@ use Rattle.cells.proofs.mark_of.Reads as mark-of-reads
 use Rattle.cells.proofs.open_mark.Reads as open-mark-reads
 use Rattle.kung.proofs.only_class.Reads as only-class-reads
 use Rattle.kung.proofs.swapped.Reads as swapped-reads
+use Rattle.kung.proofs.SetLaws.{code-lt}
 use Rattle.lookup.proofs.joined_by.Reads as joined-by-reads
 use Rattle.lookup.proofs.possible_set.Reads as possible-set-reads
 use Rattle.lookup.proofs.preimage_of.Reads as preimage-of-reads
@@ -686,7 +687,7 @@ visit-known-mark-requires : (t : ℕ) → visit-lts.Need-known-mark-requires (vi
 visit-known-mark-requires t c κs =
     let k = c .before .before .before in
     let l = k .before .before in
-    (omega (arith, k .class-of .ensures, code-small (invertIf (eqb (Gate t l / 2) 1) (ofCode (l .loop .p)))), l .loop .inv .3)
+    (omega (arith, k .class-of .ensures, code-lt (invertIf (eqb (Gate t l / 2) 1) (ofCode (l .loop .p)))), l .loop .inv .3)
 
 visit-leave-requires-3 : (t : ℕ) → visit-lts.Need-leave-requires-3 (visit-calls t) (visit-at t) visit.Post visit-Inv-loop visit-μ-loop
 visit-leave-requires-3 t c κs =
@@ -716,7 +717,7 @@ visit-returns-3 t c =
     let none : ltb (l .loop .next) (countIn (wordIn (Rows t l) (Signal t l))) ≡ false = le-ltb (l .loop .next) (countIn (wordIn (Rows t l) (Signal t l))) (omega (arith, count-is t l, e .loop-test .left)) in
     let last : k .class-of .result ≡ code (invertIf (inverts d) (ofCode (l .loop .p))) = k .class-of .ensures ∙ ap (λ v. code (invertIf v (ofCode (l .loop .p)))) (inversion t l) in
     let own : ofCode (k .class-of .result) ≡ invertIf (inverts d) (ofCode (l .loop .p)) = ap ofCode last ∙ ofCode-code (invertIf (inverts d) (ofCode (l .loop .p))) in
-    let small : k .class-of .result < 8 = omega (arith, last, code-small (invertIf (inverts d) (ofCode (l .loop .p)))) in
+    let small : k .class-of .result < 8 = omega (arith, last, code-lt (invertIf (inverts d) (ofCode (l .loop .p)))) in
     checked t l (k .class-of .result) (m .known-mark .result) (n .check-known .result) (v .leave3 .last .0) (v .leave3 .last .1 .0)
     (rw none (last ∙ sym (last-class d (ofCode (l .loop .p)) (a .wanted) (a .waiter))))
     (rw (lt-ltb (k .class-of .result) 8 small) (m .known-mark .ensures)) (omega arith) (v .leave3 .ensures .0) (v .leave3 .ensures .1)
