@@ -98,7 +98,7 @@ enum lane_operation {
  *     lane_list      1 to 17
  *     lane_full      1 to 18, 20
  *     lane_forward   1 to 18, 20
- *     lane_core      1 to 19, 21
+ *     lane_core      1 to 19
  *     lane_full_all, lane_forward_all, lane_core_all   1 to 17, 20
  *
  * In the netlist all of 1 to 4 come first; then 5 to 8 for record after record,
@@ -137,8 +137,7 @@ enum lane_refusal {
     LANE_NO_CHANGE = 18,      /* the list has no change of this number */
     LANE_NO_OUTPUT = 19,      /* the card has no output at this position */
     LANE_BUFFER_SHORT = 20,   /* the buffer is too short */
-    LANE_PINS = 21            /* the search took more pins than the card has: proved
-                                 never to be met */
+    LANE_PINS = 21            /* unused: no call gives it */
 };
 
 /*
@@ -187,8 +186,10 @@ uint32_t lane_full(const uint8_t *netlist, size_t netlist_len,
  *   output                 position among the card's outputs, from 0
  *
  * answer: [0] verdict (enum lane_verdict), [1] class (enum lane_class) of a clean
- *         output, 0 of a hazardous one, [2] gates visited, [3] pins taken
- * Refusals 1 to 18, then 19, then 21.
+ *         output, 0 of a hazardous one, [2] gates visited, [3] pins taken: never
+ *         more than the pins of the output's cone (its own gate and every gate
+ *         that reaches it through pins; empty for an output that is an input)
+ * Refusals 1 to 18, then 19.
  */
 uint32_t lane_core(const uint8_t *netlist, size_t netlist_len,
                    const uint8_t *list, size_t list_len,

@@ -5,7 +5,6 @@ use native.Mathlib.Decide.{decLt}
 use mathlib.Core.Path.{_≡_, refl, sym, _∙_, ap, subst}
 use mathlib.Core.Bool.{Bool, true, false}
 use mathlib.Core.List.{List, [], _∷_, _++_, append-assoc}
-use borrow.Author.Tests.{le-ltb}
 use lib.Dec.{ltb}
 use lib.ListN.{length, getD, take, drop}
 use lib.Seq.{take-at, drop-at}
@@ -21,10 +20,9 @@ use Rattle.simulate.specs.Full.{codes}
 use Rattle.simulate.proofs.Answers as simulate
 use Rattle.search.specs.Search.{Verdict, clean, hazardous}
 use Rattle.search.specs.Pins.{sumBelow}
-use Rattle.core.specs.Core.{searchOf, answered, guarded, coreAnswer}
+use Rattle.core.specs.Core.{searchOf, answered, coreAnswer}
 use Rattle.outputs.specs.Outputs.{verdictByte}
 use Rattle.core.proofs.Entry.{answers}
-use Rattle.core.proofs.Theorems.{pins-within}
 use Rattle.constants.specs.Change.{touchedIn}
 use Rattle.forward.specs.Forward.{visitedIn, forwardBytes}
 use Rattle.forward.proofs.Answers as forward
@@ -134,13 +132,6 @@ module _ {task : Task} (n l : List ℕ) (accepted : listChecked n l ≡ list.Acc
         bytes = λ buffer room. ap (take (outputsOf n)) (sym (d buffer room .1)) ∙ take-at (forwardBytes n l t) _ (outputsOf n) (f .each t ∙ f .wide);
       }
 
-  -- CORE answers with the search: 18 and 19 are not met, 21 never
-  core-answer : (output : ℕ) → output < o
-      → coreAnswer n l t output ≡ answered (searchOf n l t output .verdict) (searchOf n l t output .gates) (searchOf n l t output .pins)
-  unfolding guarded refuse
-  core-answer output is =
-      sym (answers n l t output accepted early is) ∙ rw (le-ltb (task .shape .pins) (searchOf n l t output .pins) (pins-within n l accepted t output))
-
   core-byte : (output : ℕ) → output < o → getD (coreBytes n l t) output 2 ≡ verdictByte (searchOf n l t output .verdict)
   unfolding coreBytes
   core-byte output is =
@@ -149,7 +140,7 @@ module _ {task : Task} (n l : List ℕ) (accepted : listChecked n l ≡ list.Acc
 
   core-says : (output : ℕ) → output < o
       → Says (getD (coreBytes n l t) output 2) (searchOf n l t output .gates) (searchOf n l t output .pins) (coreAnswer n l t output)
-  core-says output is = go (searchOf n l t output .verdict) (core-byte output is) (core-answer output is)
+  core-says output is = go (searchOf n l t output .verdict) (core-byte output is) (sym (answers n l t output accepted early is))
     where
       go : (v : Verdict) → getD (coreBytes n l t) output 2 ≡ verdictByte v
           → coreAnswer n l t output ≡ answered v (searchOf n l t output .gates) (searchOf n l t output .pins)

@@ -1,11 +1,10 @@
--- An accepted card under the search: where only the inputs are known the decoded card is that of the definition, and it has at most P pins.
+-- An accepted card under the search: its cones have at most P pins, and where only the inputs are known the decoded card is that of the definition.
 -- Assumes nothing.
 use Prim.Native.Nat.{ℕ, zero, suc, _+_, _-_, _≤_, _<_}
 use native.Mathlib.Omega.{arith}
-use native.Mathlib.Nat.{add-zero, add-suc, le-trans}
 use native.Mathlib.Decide.{decLt}
-use mathlib.Core.Path.{_≡_, refl, _∙_, ap}
-use mathlib.Core.Bool.{Bool, true}
+use mathlib.Core.Path.{_≡_, _∙_, ap}
+use mathlib.Core.Bool.{Bool, true, false, cond}
 use mathlib.Core.List.{List}
 use lib.ListN.{length, getD, replicate, length-append, length-replicate, getD-replicate, List·getD-append, List·getD-eq-default}
 use lib.Seq.{getD-append-add}
@@ -14,61 +13,32 @@ use Rattle.kung.specs.Tables.{tab}
 use Rattle.kung.proofs.Finite.{ofCode-code}
 use Rattle.kung.proofs.Listed.{getD-tab, length-tab}
 use Rattle.kung.proofs.SetLaws.{code-lt}
-use Rattle.circuit.specs.Circuit.{Source, given, gate, pinsOf, sources}
-use Rattle.circuit.proofs.Laws.{sources-cases, sources-above}
+use Rattle.circuit.specs.Circuit.{given, gate, sources}
+use Rattle.circuit.proofs.Laws.{sources-cases}
 use Rattle.words.proofs.Laws.{words-length}
 use Rattle.records.specs.Records.{countAt}
-use Rattle.netlist.specs.Netlist.{inputsOf, gatesOf, placeOf, pinsBelow, pinTotal, cardOf}
+use Rattle.netlist.specs.Netlist.{inputsOf, gatesOf, gatePins, placeOf, pinsBelow, pinTotal, cardOf}
 use Rattle.netlist.specs.Decoded.{Decoded}
-use Rattle.search.specs.Search.{search}
-use Rattle.search.specs.Pins.{sumBelow, pinsIn}
-use Rattle.search.proofs.Writes.{closed-all}
-use Rattle.search.proofs.Counts.{search-pins}
+use Rattle.search.specs.Pins.{sumBelow}
+use Rattle.search.specs.Cone.{inCone, conePins}
 use Rattle.visit.specs.Source.{sourceFrom}
 use Rattle.visit.specs.Lent.{inputsKnown}
 use Rattle.visit.specs.Cells.{Afresh}
 use Rattle.visit.proofs.Sources.{source-given, source-gate}
 
--- Document 01: "Every pin is taken at most once." So a search takes at most P pins.
-module _ (n : List ℕ) (v : ℕ → Class) where
-  abbrev src : ℕ → Source Class
-  src = sources (cardOf n) c0 v
+-- a cone has at most the card's pins
+gates-most : (n : List ℕ) (c : ℕ → Bool) (g : ℕ) → sumBelow (λ g. cond (c g) (length (gatePins n g)) 0) g ≤ pinsBelow n g
+unfolding sumBelow pinsBelow
+gates-most n c zero = omega arith
+gates-most n c (suc g) = omega (arith, go (c g), gates-most n c g)
+  where
+    go : (b : Bool) → cond b (length (gatePins n g)) 0 ≤ countAt n (placeOf n g)
+    go true = rw words-length (omega arith)
+    go false = omega arith
 
-  pins-at : (s : ℕ) → length (pinsOf (src s)) ≤ countAt n (placeOf n (s - inputsOf n))
-  unfolding cardOf
-  pins-at =
-      sources-cases (cardOf n) c0 v (λ s c. length (pinsOf c) ≤ countAt n (placeOf n (s - inputsOf n))) (λ s h. omega arith)
-      (λ g h. let e : inputsOf n + g - inputsOf n ≡ g = omega arith in rw (e, words-length) (omega arith)) (λ s h. omega arith)
-
-  pins-input : (s : ℕ) → s < inputsOf n → length (pinsOf (src s)) ≡ 0
-  unfolding cardOf
-  pins-input =
-      sources-cases (cardOf n) c0 v (λ s c. s < inputsOf n → length (pinsOf c) ≡ 0) (λ s h less. refl) (λ g h less. absurd (omega arith)) (λ s h less. refl)
-
-  sum-inputs : (k : ℕ) → k ≤ inputsOf n → pinsIn src (λ s. true) k ≡ 0
-  unfolding sumBelow
-  sum-inputs zero h = refl
-  sum-inputs (suc k) h = omega (arith, sum-inputs k (omega arith), pins-input k (omega arith))
-
-  pins-most : (g : ℕ) → pinsIn src (λ s. true) (inputsOf n + g) ≤ pinsBelow n g
-  unfolding sumBelow pinsBelow
-  pins-most zero = rw (add-zero (inputsOf n)) (omega (arith, sum-inputs (inputsOf n) (omega arith)))
-  pins-most (suc g) =
-      let e : inputsOf n + g - inputsOf n ≡ g = omega arith in
-      rw (add-suc (inputsOf n) g) (omega (arith, pins-most g, rw e at (pins-at (inputsOf n + g))))
-
-  -- what is no signal takes none
-  none-taken : (w s : ℕ) → inputsOf n + gatesOf n ≤ s → (search src w s) .pins ≡ 0
-  unfolding search cardOf
-  none-taken w s h = rw (sources-above (cardOf n) c0 v s h)
-
-  pub search-within : (w s : ℕ) → (search src w s) .pins ≤ pinTotal n
-  search-within w s = go (decLt s (inputsOf n + gatesOf n))
-    where
-      go : Dec (s < inputsOf n + gatesOf n) → (search src w s) .pins ≤ pinTotal n
-      go (yes below) =
-          le-trans (search-pins src (λ s. true) (closed-all src) w s (inputsOf n + gatesOf n) refl below) (pins-most (gatesOf n))
-      go (no above) = omega (arith, none-taken w s (omega arith))
+pub cone-most : (n : List ℕ) (s : ℕ) → conePins (cardOf n) s ≤ pinTotal n
+unfolding conePins cardOf
+cone-most n s = gates-most n (inCone (cardOf n) s) _
 
 -- where only the inputs are known
 module _ {repeated : Bool} (n rows : List ℕ) (d : Decoded repeated n rows) (v : ℕ → Class) where

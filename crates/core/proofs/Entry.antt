@@ -22,15 +22,15 @@ use Rattle.changes.specs.Lent.{Accepts, signalsOf}
 use Rattle.changes.specs.Refusals.{listChecked}
 use Rattle.changes.proofs.Accepted.{listed}
 use Rattle.inputs.specs.Written.{inputCodes, codeAt}
-use Rattle.search.specs.Search.{clean, hazardous, Verdict, Answer, search}
+use Rattle.search.specs.Search.{clean, hazardous, Verdict, search}
 use Rattle.core.specs.declared.Cored.the-variants.{Refused}
 use Rattle.visit.specs.Source.{sourceFrom}
 use Rattle.visit.specs.Found.{foundOf}
 use Rattle.visit.specs.Lent.{inputsKnown}
 use Rattle.outputs.specs.Lent.{OutputsReady}
 use Rattle.outputs.proofs.Ready.{outputs-ready}
-use Rattle.core.specs.Core.{searchOf, guarded, coreFrom, coreAnswer}
-use Rattle.core.specs.Codes.{guardedFound}
+use Rattle.core.specs.Core.{answered, searchOf, coreFrom, coreAnswer}
+use Rattle.core.specs.Codes.{answeredBy}
 use Rattle.core.specs.Lent.{NoneKnown}
 use Rattle.core.proofs.Cards.{sources-known, known-length, known-below, known-afresh}
 
@@ -103,14 +103,11 @@ pub clean-set : cleanSet ≡ 15
 unfolding setOf
 clean-set = refl
 
-pub guard-is : (most : ℕ) (answer : Answer) → guardedFound most (foundOf answer) ≡ guarded most answer
-unfolding guarded guardedFound refuse
-guard-is most answer = go (answer .verdict)
-  where
-    go : (v : Verdict) → guardedFound most (foundOf (record { verdict = v; gates = answer .gates; pins = answer .pins }))
-        ≡ guarded most (record { verdict = v; gates = answer .gates; pins = answer .pins })
-    go (clean k) = refl
-    go hazardous = refl
+-- what the code finds is what the definition answers
+pub found-answered : (v : Verdict) (gates pins : ℕ) → let found = foundOf (record { verdict = v; gates = gates; pins = pins }) in
+    answeredBy (found .verdict) (found .gates) (found .pins) ≡ answered v gates pins
+found-answered (clean k) gates pins = refl
+found-answered hazardous gates pins = refl
 
 module _ (n l : List ℕ) (change output : ℕ) where
   pub refused-list : (number place : ℕ) → listChecked n l ≡ list.Refused number place → Refused number place ≡ coreAnswer n l change output
@@ -127,6 +124,7 @@ module _ (n l : List ℕ) (change output : ℕ) where
       unfolding coreAnswer coreFrom refuse
       refused-output none = rw (e, lt-leb (task .changes) change early, le-leb (task .shape .outputs) output none)
 
-      pub answers : output < task .shape .outputs → guarded (task .shape .pins) (searchOf n l change output) ≡ coreAnswer n l change output
+      pub answers : output < task .shape .outputs
+          → answered (searchOf n l change output .verdict) (searchOf n l change output .gates) (searchOf n l change output .pins) ≡ coreAnswer n l change output
       unfolding coreAnswer coreFrom refuse
       answers is = rw (e, lt-leb (task .changes) change early, lt-leb (task .shape .outputs) output is)

@@ -3,13 +3,11 @@ use Prim.Native.Nat.{ℕ, _+_, _≤_, _<_}
 use native.Mathlib.Omega.{arith}
 use mathlib.Core.Path.{_≡_, sym, _∙_, ap}
 use mathlib.Core.List.{List}
-use borrow.Author.Tests.{le-ltb}
 use Rattle.kung.specs.Class.{c0}
 use Rattle.kung.specs.Rule.{gateClass}
 use Rattle.kung.specs.Sets.{cleanSet}
-use Rattle.circuit.specs.Circuit.{value, Falling}
+use Rattle.circuit.specs.Circuit.{value, Falling, WellFormed}
 use Rattle.circuit.proofs.Laws.{sources-falling}
-use Rattle.words.specs.Refusal.{refuse}
 use Rattle.netlist.specs.Netlist.{inputsOf, outputAt, cardOf}
 use Rattle.netlist.proofs.Accepted.{formed}
 use Rattle.changes.specs.declared.Task.{Task}
@@ -18,42 +16,43 @@ use Rattle.changes.specs.Changes.{widthOf, inputClassAt, sourcesOf}
 use Rattle.changes.specs.Refusals.{listChecked}
 use Rattle.changes.proofs.Accepted.{listed}
 use Rattle.search.specs.Search.{judged}
+use Rattle.search.specs.Cone.{conePins}
 use Rattle.search.proofs.Right.{search-right}
+use Rattle.search.proofs.Cones.{search-cone}
 use Rattle.search.proofs.Counts.{search-gates}
-use Rattle.core.specs.Core.{answered, guarded, searchOf, coreAnswer}
-use Rattle.core.proofs.Cards.{search-within}
+use Rattle.core.specs.Core.{answered, searchOf, coreAnswer}
+use Rattle.core.proofs.Cards.{cone-most}
 use Rattle.core.proofs.Entry.{answers}
 
 module _ {task : Task} (n l : List ℕ) (accepted : listChecked n l ≡ list.Accepted task) (change output : ℕ) where
+  well-formed : WellFormed (cardOf n)
+  well-formed = formed n (listed n l accepted .netlist-accepted) .well-formed
+
   falling : Falling (sourcesOf n l change)
   unfolding sourcesOf
-  falling =
-      sources-falling (cardOf n) c0 (inputClassAt l (widthOf (inputsOf n)) change)
-      (formed n (listed n l accepted .netlist-accepted) .well-formed)
+  falling = sources-falling (cardOf n) c0 (inputClassAt l (widthOf (inputsOf n)) change) well-formed
 
-  -- "Every pin is taken at most once": never more than P
-  pub pins-within : searchOf n l change output .pins ≤ task .shape .pins
+  -- "CORE never takes more pins than the output's cone has"
+  pub pins-in-cone : searchOf n l change output .pins ≤ conePins (cardOf n) (outputAt n output)
   unfolding searchOf sourcesOf
-  pins-within =
-      omega (
-        arith,
-        search-within n (inputClassAt l (widthOf (inputsOf n)) change) cleanSet (outputAt n output),
-        formed n (listed n l accepted .netlist-accepted) .pins-are,
-      )
+  pins-in-cone = search-cone (cardOf n) well-formed c0 (inputClassAt l (widthOf (inputsOf n)) change) (outputAt n output) cleanSet
+
+  -- so never more than P
+  pub pins-within : searchOf n l change output .pins ≤ task .shape .pins
+  pins-within = omega (arith, pins-in-cone, cone-most n (outputAt n output), formed n (listed n l accepted .netlist-accepted) .pins-are)
 
   -- each gate but the first is reached through a pin of its own
   pub gates-within : searchOf n l change output .gates ≤ searchOf n l change output .pins + 1
   unfolding searchOf
   gates-within = search-gates (sourcesOf n l change) falling cleanSet (outputAt n output)
 
-  -- clean with its class exactly where that is 0, 1, R or F; refusal 21 is never met
+  -- clean with its class exactly where that is 0, 1, R or F
   pub core-right : change < task .changes → output < task .shape .outputs
       → coreAnswer n l change output
       ≡ answered (judged cleanSet (value gateClass c0 (sourcesOf n l change) (outputAt n output))) (searchOf n l change output .gates)
       (searchOf n l change output .pins)
-  unfolding searchOf guarded refuse
+  unfolding searchOf
   core-right early is =
       sym (answers n l change output accepted early is)
-      ∙ rw (le-ltb (task .shape .pins) (searchOf n l change output .pins) pins-within)
-      (ap (λ v. answered v (searchOf n l change output .gates) (searchOf n l change output .pins))
-      (search-right (sourcesOf n l change) falling cleanSet (outputAt n output)))
+      ∙ ap (λ v. answered v (searchOf n l change output .gates) (searchOf n l change output .pins))
+      (search-right (sourcesOf n l change) falling cleanSet (outputAt n output))

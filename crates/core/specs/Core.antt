@@ -1,7 +1,7 @@
 -- Document 01, "CORE" and "Turned back, by operation": CORE for an output of a change.
 use Prim.Native.Nat.{ℕ}
 use mathlib.Core.List.{List}
-use lib.Dec.{leb, ltb}
+use lib.Dec.{leb}
 use Rattle.kung.specs.Class.{code}
 use Rattle.kung.specs.Sets.{cleanSet}
 use Rattle.words.specs.Refusal.{refuse}
@@ -23,17 +23,13 @@ abbrev pub answered : Verdict → (gates pins : ℕ) → Cored
 answered (clean k) gates pins = Clean (code k) gates pins
 answered hazardous gates pins = Hazardous gates pins
 
--- "then 21 if the search took more than P pins"
-unfoldable pub guarded : (most : ℕ) → Answer → Cored
-guarded most answer = refuse Refused (ltb most (answer .pins)) 21 0 (answered (answer .verdict) (answer .gates) (answer .pins))
-
--- "CORE: the list's, 18, output not below O 19"; "Places from 18 up are 0 unless given otherwise."
+-- "CORE: the list's, 18, output not below O 19"; "Places from 18 up are 0 unless given otherwise." Document 02, "Job 8", took the last refusal away.
 unfoldable pub coreFrom : Listed → (change output : ℕ) → Answer → Cored
 coreFrom (list.Refused number place) change output answer = Refused number place
 coreFrom (list.Accepted task) change output answer =
     refuse Refused (leb (task .changes) change) 18 0
     (refuse Refused (leb (task .shape .outputs) output) 19 0
-    (guarded (task .shape .pins) answer))
+    (answered (answer .verdict) (answer .gates) (answer .pins)))
 
 unfoldable pub coreAnswer : (netlist list : List ℕ) → (change output : ℕ) → Cored
 coreAnswer n l change output = coreFrom (listChecked n l) change output (searchOf n l change output)

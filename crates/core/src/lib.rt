@@ -4,7 +4,7 @@ ghost use Prim.Native.Nat.{_+_, _*_, _≤_};
 ghost use lib.ListN.{length, replicate};
 ghost use Rattle.changes.specs.Lent.{signalsFor};
 ghost use Rattle.core.specs.Core.{coreAnswer};
-ghost use Rattle.core.specs.Codes.{guardedFound};
+ghost use Rattle.core.specs.Codes.{answeredBy};
 use changes::Listed;
 use outputs::CLEAN_SET;
 use visit::Found;
@@ -26,14 +26,11 @@ pub enum Cored {
     Refused(u8, usize),
 }
 
-// A search's answer, unless it took more pins than the card has.
-fn guard(most: usize, found: Found) -> Cored
-    ensures { λ r. ⌜ r ≡ guardedFound most found ⌝ }
+// What a search found, as CORE's answer.
+fn answer(found: Found) -> Cored
+    ensures { λ r. ⌜ r ≡ answeredBy (found .verdict) (found .gates) (found .pins) ⌝ }
 {
     let verdict = found.verdict;
-    if most < found.pins {
-        return Cored::Refused(21, 0);
-    }
     match verdict {
         Verdict::Clean { class } => Cored::Clean {
             class: class,
@@ -82,7 +79,7 @@ fn core_in(
                 CLEAN_SET,
                 s,
             );
-            guard(shape.pins, found)
+            answer(found)
         }
     }
 }

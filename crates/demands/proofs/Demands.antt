@@ -1,4 +1,4 @@
--- The three demands hold. Assumes nothing.
+-- What is promised holds: the three demands and what requests added. Assumes nothing.
 use Prim.Native.Nat.{ℕ, _+_, _≤_, _<_}
 use native.Mathlib.Omega.{arith}
 use mathlib.Core.Path.{_≡_, refl, sym, _∙_, ap₂, subst}
@@ -21,11 +21,10 @@ use Rattle.changes.proofs.Proper.{first-list-refusal, listed→proper, proper�
 use Rattle.simulate.specs.Full as full
 use Rattle.simulate.specs.Full.{classIn, fullAnswer, fullBuffer}
 use Rattle.simulate.specs.declared.Simulated.the-variants as simulated
-use Rattle.search.specs.Search.{Verdict, clean, hazardous}
-use Rattle.core.specs.Core.{answered, guarded, searchOf, coreFrom, coreAnswer}
+use Rattle.search.specs.Search.{Verdict, clean, hazardous, Answer}
+use Rattle.core.specs.Core.{answered, searchOf, coreFrom, coreAnswer}
 use Rattle.core.specs.declared.Cored.{Cored}
 use Rattle.core.specs.declared.Cored.the-variants as cored
-use Rattle.core.proofs.Theorems.{pins-within}
 use Rattle.constants.specs.Change.{touchedIn}
 use Rattle.forward.specs.Forward as forward
 use Rattle.forward.specs.Forward.{visitedIn, forwardAnswer, forwardBuffer}
@@ -36,6 +35,7 @@ use Rattle.demands.specs.Demands.{ListAccepted, Accepted, firstVector, s
 use Rattle.demands.proofs.Refusals.{chain, Cases, cases, form}
 use Rattle.demands.proofs.Walks.{opening, step}
 use Rattle.demands.proofs.Verdicts.{output-below, demand2}
+use Rattle.demands.proofs.Cones.{core-pins}
 
 -- each operation's answer is a chain of refusals
 full-chain : (change room : ℕ) (x : Listed) → chain simulated.Refused simulated.Done (λ k. ltb room (k .inputs + k .gates)) 20 change x ≡ full.fullFrom x change room
@@ -49,15 +49,14 @@ unfolding forward.forwardFrom refuse
 forward-chain change room touched visited (list.Refused number place) = refl
 forward-chain change room touched visited (list.Accepted task) = refl
 
-module _ (n l : List ℕ) (change output : ℕ) where
-  abbrev found : Cored
-  found = answered (searchOf n l change output .verdict) (searchOf n l change output .gates) (searchOf n l change output .pins)
+abbrev answeredWith : Answer → Cored
+answeredWith found = answered (found .verdict) (found .gates) (found .pins)
 
-  core-chain : (x : Listed) → listChecked n l ≡ x
-      → chain cored.Refused found (λ k. leb (k .outputs) output) 19 change x ≡ coreFrom x change output (searchOf n l change output)
-  unfolding coreFrom guarded refuse
-  core-chain (list.Refused number place) e = refl
-  core-chain (list.Accepted task) e = rw (le-ltb (task .shape .pins) (searchOf n l change output .pins) (pins-within n l e change output))
+core-chain : (change output : ℕ) (found : Answer) (x : Listed)
+    → chain cored.Refused (answeredWith found) (λ k. leb (k .outputs) output) 19 change x ≡ coreFrom x change output found
+unfolding coreFrom refuse
+core-chain change output found (list.Refused number place) = refl
+core-chain change output found (list.Accepted task) = refl
 
 -- a test of numbers, both ways
 abbrev Decides : Bool → Type 0 → Type 0
@@ -94,16 +93,16 @@ module _ (n l : List ℕ) (change output : ℕ) (buffer : List ℕ) where
       (λ a b e. let z : _≡_ {A = ℕ} 0 1 = cc in omega arith) n l (λ k. ltb (length buffer) (k .outputs)) 20 change (length buffer < outputsOf n) (λ on. few on .0)
       (λ on. few on .1)
 
-  never-found : (a b : ℕ) → cored.Refused a b ≡ found n l change output → ⊥
+  never-found : (a b : ℕ) → cored.Refused a b ≡ answeredWith (searchOf n l change output) → ⊥
   never-found a b = go (searchOf n l change output .verdict)
     where
       go : (v : Verdict) → cored.Refused a b ≡ answered v (searchOf n l change output .gates) (searchOf n l change output .pins) → ⊥
       go (clean k) e = let z : _≡_ {A = ℕ} 0 1 = cc in omega arith
       go hazardous e = let z : _≡_ {A = ℕ} 0 1 = cc in omega arith
 
-  core-cases : Cases cored.Refused (found n l change output) n l change (λ k. leb (k .outputs) output) 19 (outputsOf n ≤ output)
+  core-cases : Cases cored.Refused (answeredWith (searchOf n l change output)) n l change (λ k. leb (k .outputs) output) 19 (outputsOf n ≤ output)
   core-cases =
-      cases cored.Refused (found n l change output) (λ a b c d e. ((cc), (cc))) never-found n l (λ k. leb (k .outputs) output) 19 change (outputsOf n ≤ output)
+      cases cored.Refused (answeredWith (searchOf n l change output)) (λ a b c d e. ((cc), (cc))) never-found n l (λ k. leb (k .outputs) output) 19 change (outputsOf n ≤ output)
       (λ on. none on .0) (λ on. none on .1)
 
   full-is : chain simulated.Refused simulated.Done (λ k. ltb (length buffer) (k .inputs + k .gates)) 20 change (listChecked n l) ≡ fullAnswer n l change buffer
@@ -115,9 +114,9 @@ module _ (n l : List ℕ) (change output : ℕ) (buffer : List ℕ) where
   unfolding forwardAnswer
   forward-is = forward-chain change (length buffer) (touchedIn n l change) (visitedIn n l change) (listChecked n l)
 
-  core-is : chain cored.Refused (found n l change output) (λ k. leb (k .outputs) output) 19 change (listChecked n l) ≡ coreAnswer n l change output
+  core-is : chain cored.Refused (answeredWith (searchOf n l change output)) (λ k. leb (k .outputs) output) 19 change (listChecked n l) ≡ coreAnswer n l change output
   unfolding coreAnswer
-  core-is = core-chain n l change output (listChecked n l) refl
+  core-is = core-chain change output (searchOf n l change output) (listChecked n l)
 
   operations : Operations n l change output buffer
   unfolding fullBuffer forwardBuffer
@@ -187,4 +186,5 @@ demands =
       demand1 = record { reading = reading; operations = operations; opening = opening; step = step };
       demand2 = demand2;
       demand3 = demand3;
+      core-pins = core-pins;
     }

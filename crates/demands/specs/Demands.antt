@@ -1,4 +1,4 @@
--- What is promised, in one file: the three demands, over the very definitions that the entry points' contracts cite.
+-- What is promised, in one file: the three demands and what requests added, over the very definitions that the entry points' contracts cite.
 use Prim.Native.Nat.{ℕ, _+_, _≤_, _<_}
 use mathlib.Core.Path.{_≡_}
 use mathlib.Core.Bool.{Bool, true, false}
@@ -12,7 +12,7 @@ use Rattle.kung.specs.Class.{code, ofCode, clean, inputClass}
 use Rattle.kung.specs.Rule.{gateClass}
 use Rattle.circuit.specs.Settled.{settled}
 use Rattle.records.specs.Records.{kindAt, countAt, pastRecord, leastPins, mostPins}
-use Rattle.netlist.specs.Netlist.{inputsOf, gatesOf, outputsOf, outputAt, gateKind, gatePins, cardOf, accepted, checked}
+use Rattle.netlist.specs.Netlist.{inputsOf, gatesOf, outputsOf, outputAt, gateKind, gatePins, pinTotal, cardOf, accepted, checked}
 use Rattle.netlist.specs.Proper.{Proper, conditions, firstMet}
 use Rattle.netlist.specs.declared.Checked.the-variants as netlist
 use Rattle.changes.specs.Changes.{first, second, bitOf, widthOf}
@@ -22,6 +22,7 @@ use Rattle.changes.specs.declared.Listed.the-variants as list
 use Rattle.changes.specs.declared.Task.{Task}
 use Rattle.simulate.specs.Full.{classIn, fullAnswer, fullBuffer}
 use Rattle.simulate.specs.declared.Simulated.the-variants as simulated
+use Rattle.search.specs.Cone.{inCone, conePins, PinPath}
 use Rattle.core.specs.Core.{answered, searchOf, coreAnswer}
 use Rattle.core.specs.declared.Cored.{Cored}
 use Rattle.core.specs.declared.Cored.the-variants as cored
@@ -104,7 +105,7 @@ pub record Operations (n l : List ℕ) (change output : ℕ) (buffer : List ℕ)
   pub forward-refused : (number place : ℕ)
       → (forwardAnswer n l change buffer ≡ forwarded.Refused number place) ↔ FirstMet n l change (length buffer < outputsOf n) 20 number place
   pub forward-untouched : (number place : ℕ) → forwardAnswer n l change buffer ≡ forwarded.Refused number place → forwardBuffer n l change buffer ≡ buffer
-  -- "CORE: the list's, 18, output not below O 19, then 21 if the search took more than P pins.": 21 is never met
+  -- "CORE: the list's, 18, output not below O 19", and nothing after it since document 02's Job 8: "Orders ending in 21 end one place earlier."
   pub core-done : (coreAnswer n l change output ≡ answered (searchOf n l change output .verdict) (searchOf n l change output .gates) (searchOf n l change output .pins))
       ↔ (Accepted n l change × (output < outputsOf n))
   pub core-refused : (number place : ℕ)
@@ -207,8 +208,30 @@ pub record Demand3 (n l : List ℕ) (change : ℕ) : Type 0 where
   -- "one complete order"
   pub hazard : (order : List Event) × ShowsAll n l change order
 
--- All that is promised: Demand 1 of whatever is handed in, Demands 2 and 3 of each change of an accepted list
+-- Document 02, "Job 8". "CORE never takes more pins than the output's cone has".
+-- the pins of CORE's answer, or none where it is a refusal
+abbrev pub pinsBy : Cored → Option ℕ
+pinsBy (cored.Clean class gates pins) = some pins
+pinsBy (cored.Hazardous gates pins) = some pins
+pinsBy (cored.Refused number place) = none
+
+pub record CorePins (n l : List ℕ) (change : ℕ) : Type 0 where
+  -- "the cone being the output's own gate and every gate that reaches it through pins"
+  pub cone : (output g : ℕ) → (inCone (cardOf n) (outputAt n output) g ≡ true) ↔ PinPath (cardOf n) (inputsOf n + g) (outputAt n output)
+  -- "an output that is an input has an empty cone"
+  pub empty : (output g : ℕ) → outputAt n output < inputsOf n → inCone (cardOf n) (outputAt n output) g ≡ false
+  -- "never [...] more pins than the output's cone has"
+  pub in-cone : (output pins : ℕ) → output < outputsOf n → pinsBy (coreAnswer n l change output) ≡ some pins
+      → pins ≤ conePins (cardOf n) (outputAt n output)
+  -- so that no pin is taken for such an output
+  pub input-none : (output pins : ℕ) → output < outputsOf n → pinsBy (coreAnswer n l change output) ≡ some pins
+      → outputAt n output < inputsOf n → pins ≡ 0
+  -- and never more than P, which is what the guard asked
+  pub within : (output pins : ℕ) → output < outputsOf n → pinsBy (coreAnswer n l change output) ≡ some pins → pins ≤ pinTotal n
+
+-- All that is promised: Demand 1 of whatever is handed in; of each change of an accepted list Demands 2 and 3, and the bound on CORE's pins
 pub record Demands : Type 0 where
   pub demand1 : Demand1
   pub demand2 : (n l : List ℕ) (change : ℕ) → Accepted n l change → Demand2 n l change
   pub demand3 : (n l : List ℕ) (change : ℕ) → Accepted n l change → Demand3 n l change
+  pub core-pins : (n l : List ℕ) (change : ℕ) → Accepted n l change → CorePins n l change

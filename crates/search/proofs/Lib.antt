@@ -4,5 +4,6 @@ pub mod Known
 pub mod Writes
 pub mod Same
 pub mod Counts
+pub mod Cones
 pub mod Steps
 pub mod Cases

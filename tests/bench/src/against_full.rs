@@ -27,17 +27,8 @@ pub struct Visits {
 /// Gates in the cone of each output.
 fn cones(netlist: &[u8]) -> Vec<usize> {
     let card = netlist::decode(netlist).expect("an accepted card");
-    let cone = |output: &usize| {
-        let mut inside = vec![false; card.signals()];
-        inside[*output] = true;
-        for (gate, record) in card.gates.iter().enumerate().rev() {
-            if inside[card.inputs + gate] {
-                record.pins.iter().for_each(|pin| inside[*pin] = true);
-            }
-        }
-        inside[card.inputs..].iter().filter(|is| **is).count()
-    };
-    card.outputs.iter().map(cone).collect()
+    let gates = |output: &usize| card.cone(*output).into_iter().filter(|is| *is).count();
+    card.outputs.iter().map(gates).collect()
 }
 
 impl Visits {

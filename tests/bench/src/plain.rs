@@ -11,6 +11,8 @@ pub struct Card {
     pub inputs: usize,
     pub gates: usize,
     pub outputs: usize,
+    /// P, a part of the check's answer that no later call asks for.
+    #[cfg_attr(not(test), allow(dead_code))]
     pub pins: usize,
     pub entries_at: usize,
 }
@@ -443,11 +445,7 @@ pub fn core(
         return Err((19, 0));
     }
     let places = places(netlist, &card);
-    let answer = core_once(netlist, list, &card, &places, change, output);
-    match answer.2 > card.pins {
-        true => Err((21, 0)),
-        false => Ok(answer),
-    }
+    Ok(core_once(netlist, list, &card, &places, change, output))
 }
 
 /// Writes each output's verdict, searched from a copy of the cells; the sums

@@ -430,11 +430,7 @@ pub fn core(
     if output >= index.outputs {
         return Err((19, 0));
     }
-    let answer = core_once(netlist, list, change, output, index);
-    if answer.2 > index.pins {
-        return Err((21, 0));
-    }
-    Ok(answer)
+    Ok(core_once(netlist, list, change, output, index))
 }
 
 /// Writes each output's verdict, searched from a copy of the cells; the sums

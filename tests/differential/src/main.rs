@@ -2,13 +2,14 @@
 //! reference on N random cards, accepted and damaged, with all buffers' bytes.
 //! Stops with status 1 at the first difference and keeps the two files of that
 //! card. It also fails if it has compared too little: a call was never accepted,
-//! a walk never gave a record or none, or, from 1,000 cards on, a refusal was
-//! never met.
+//! a walk never gave a record or none, no cone was searched whole or in part, or,
+//! from 1,000 cards on, a refusal was never met.
 
 use differential::{found, right, same, same_filling, stack, Answer, Difference, Step};
 use reference::classes::ALL;
-use reference::netlist::{Card, HEAD};
+use reference::netlist::{self, Card, HEAD};
 use reference::random::{self, Random};
+use std::cmp::Ordering;
 use std::path::PathBuf;
 use std::process::ExitCode;
 
@@ -49,7 +50,7 @@ impl Call {
         CALLS[self as usize].1
     }
 
-    /// The refusals that it can meet; nothing meets 21.
+    /// The refusals that it can meet.
     fn refusals(self) -> Vec<usize> {
         match self {
             Call::Netlist | Call::Walk => (1..=10).collect(),
@@ -65,9 +66,12 @@ impl Call {
 /// what they hand back.
 #[derive(Default)]
 struct Counts {
-    answers: [[usize; 22]; CALLS.len()],
+    answers: [[usize; 21]; CALLS.len()],
     records: usize,
     nones: usize,
+    /// Searches that took every pin of a cone that has pins, and fewer.
+    whole_cones: usize,
+    part_cones: usize,
 }
 
 impl Counts {
@@ -89,6 +93,8 @@ impl Counts {
         }
         let (records, nones) = (self.records, self.nones);
         println!("{:>11}: {records} records, {nones} times none", "step");
+        let (whole, part) = (self.whole_cones, self.part_cones);
+        println!("{:>11}: {whole} searched whole, {part} in part", "cones");
     }
 
     /// Has each call been met with every answer that so many cards should bring?
@@ -108,6 +114,11 @@ impl Counts {
         match (self.records, self.nones) {
             (0, _) => Err("step never handed back a record".to_string()),
             (_, 0) => Err("step never gave none".to_string()),
+            _ => Ok(()),
+        }?;
+        match (self.whole_cones, self.part_cones) {
+            (0, _) => Err("no cone was searched whole".to_string()),
+            (_, 0) => Err("no cone was searched in part".to_string()),
             _ => Ok(()),
         }
     }
@@ -160,6 +171,8 @@ struct Round<'a> {
     files: &'a Files,
     card: &'a Card,
     changes: usize,
+    /// The pins of each output's cone, if the netlist is accepted.
+    cones: Vec<u64>,
 }
 
 impl Round<'_> {
@@ -176,6 +189,20 @@ impl Round<'_> {
             let right = right::core(n, l, change, *output);
             let place = |difference| format!("change {change} output {output}: {difference}");
             self.answers(Call::Core, found, right).map_err(place)?;
+            if let (0, [_, _, _, pins, _]) = found {
+                self.pins(pins, self.cones[*output]).map_err(place)?;
+            }
+        }
+        Ok(())
+    }
+
+    /// A search takes at most the pins of its cone.
+    fn pins(&mut self, taken: u64, cone: u64) -> Result<(), Difference> {
+        match taken.cmp(&cone) {
+            Ordering::Greater => return Err(format!("{taken} pins, the cone has {cone}")),
+            Ordering::Equal if cone > 0 => self.counts.whole_cones += 1,
+            Ordering::Equal => {}
+            Ordering::Less => self.counts.part_cones += 1,
         }
         Ok(())
     }
@@ -317,6 +344,15 @@ fn files(random: &mut Random, card: &Card, count: usize) -> Files {
     }
 }
 
+/// The pins of each output's cone in an accepted netlist.
+fn cones(netlist: &[u8]) -> Vec<u64> {
+    let Ok(card) = netlist::decode(netlist) else {
+        return Vec::new();
+    };
+    let pins = |output: &usize| card.cone_pins(*output) as u64;
+    card.outputs.iter().map(pins).collect()
+}
+
 fn random_card(random: &mut Random, round: usize) -> Card {
     match round % 20 {
         0 => random::any_card(random),
@@ -336,6 +372,7 @@ fn run(rounds: usize, seed: u64, counts: &mut Counts) -> Result<(), (Difference,
             files: &files,
             card: &card,
             changes,
+            cones: cones(&files.netlist),
         };
         if let Err(difference) = round.compare() {
             return Err((format!("card {number}: {difference}"), files));

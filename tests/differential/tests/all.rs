@@ -259,7 +259,7 @@ fn longest_lists() {
 #[test]
 fn damaged_files() {
     let mut random = Random::new(67);
-    let mut met = [[0; 22]; CALLS.len()];
+    let mut met = [[0; 21]; CALLS.len()];
     for _ in 0..3000 {
         let card = random::small_card(&mut random);
         let (netlist, list) = random::damaged_files(&mut random, &card, 2);

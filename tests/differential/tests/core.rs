@@ -21,10 +21,15 @@ struct Seen {
     /// least one unfinished gate carried on.
     with_unfinished: usize,
     with_carried_on: usize,
+    /// Searches that took every pin of a cone that has pins.
+    whole_cones: usize,
 }
 
 impl Seen {
-    fn note(&mut self, answer: &Answer, statistics: &Statistics) {
+    /// An answer that the library gave too: at most the pins of the cone.
+    fn note(&mut self, answer: &Answer, statistics: &Statistics, cone: usize) {
+        assert!(answer.pins <= cone as u64, "{answer:?}, a cone of {cone}");
+        self.whole_cones += usize::from(cone > 0 && answer.pins == cone as u64);
         self.compared += 1;
         self.hazardous += usize::from(answer.verdict == Verdict::Hazardous);
         self.with_unfinished += usize::from(statistics.unfinished > 0);
@@ -39,8 +44,14 @@ impl Seen {
         );
         println!(
             "core {name}: {} cards, {} searches compared, {} hazardous, \
-             {} with a visit that ended unfinished, {} with one carried on",
-            self.cards, self.compared, self.hazardous, self.with_unfinished, self.with_carried_on
+             {} with a visit that ended unfinished, {} with one carried on, \
+             {} of a whole cone",
+            self.cards,
+            self.compared,
+            self.hazardous,
+            self.with_unfinished,
+            self.with_carried_on,
+            self.whole_cones
         );
     }
 }
@@ -59,7 +70,7 @@ fn compare_card(seen: &mut Seen, random: &mut Random, card: &Card, count: usize)
                 "change {change} {:?} output {output} of {card:?}",
                 inputs(change)
             );
-            seen.note(answer, statistics);
+            seen.note(answer, statistics, card.cone_pins(card.outputs[output]));
         }
     }
     seen.cards += 1;
@@ -85,6 +96,7 @@ fn many_small_cards() {
     assert!(seen.hazardous > 2000 && seen.compared - seen.hazardous > 2000);
     assert!(seen.with_unfinished > 2000);
     assert!(seen.with_carried_on > 500);
+    assert!(seen.whole_cones > 500);
     seen.print("small cards");
 }
 
@@ -221,7 +233,7 @@ fn all_changes_of_small_cards() {
                     (0, right::core_values(*answer)),
                     "{change:?} {output} {card:?}"
                 );
-                seen.note(answer, statistics);
+                seen.note(answer, statistics, card.cone_pins(card.outputs[output]));
             }
         }
         seen.cards += 1;

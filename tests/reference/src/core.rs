@@ -305,9 +305,6 @@ pub fn core(netlist: &[u8], list: &[u8], change: usize, output: usize) -> Result
         return refused(19, 0);
     }
     let (answer, _) = search_each(&sources(&card, &inputs), &[card.outputs[output]])[0];
-    if answer.pins > card.pin_total() as u64 {
-        return refused(21, 0);
-    }
     Ok(answer)
 }
 
@@ -347,7 +344,8 @@ mod tests {
         assert_eq!(all_outputs(&card, &vec![Class::Rise])[0].0, answer);
     }
 
-    /// The verdict is full simulation's, and no pin is taken twice.
+    /// The verdict is full simulation's, and no pin is taken twice nor out of
+    /// the cone.
     #[test]
     fn verdict_is_the_class() {
         let mut random = Random::new(4);
@@ -366,7 +364,7 @@ mod tests {
                     false => Verdict::Hazardous,
                 };
                 assert_eq!(answer.verdict, expected);
-                assert!(answer.pins <= card.pin_total() as u64);
+                assert!(answer.pins <= card.cone_pins(*output) as u64);
                 assert!(answer.gates <= card.gates.len() as u64);
                 seen.unfinished += statistics.unfinished;
                 seen.carried_on += statistics.carried_on;

@@ -1,6 +1,7 @@
-//! A second implementation of document 01, written from the document alone.
+//! A second implementation of documents 01 and 02, written from the documents
+//! alone.
 //!
-//! It favours closeness to the document's words over speed: the verified
+//! It favours closeness to the documents' words over speed: the verified
 //! library is compared with it, so it has to be easy to check by reading.
 
 pub mod bench;

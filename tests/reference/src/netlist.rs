@@ -129,6 +129,28 @@ impl Card {
         self.gates.iter().map(|gate| gate.pins.len()).sum()
     }
 
+    /// A signal's cone, gate by gate: "the output's own gate and every gate
+    /// that reaches it through pins; an output that is an input has an empty
+    /// cone". Pins name lower signals, so one pass down meets all of them.
+    pub fn cone(&self, signal: usize) -> Vec<bool> {
+        let mut reached = vec![false; self.signals()];
+        reached[signal] = true;
+        for (number, gate) in self.gates.iter().enumerate().rev() {
+            if reached[self.inputs + number] {
+                gate.pins.iter().for_each(|pin| reached[*pin] = true);
+            }
+        }
+        reached.split_off(self.inputs)
+    }
+
+    /// The pins of its gates.
+    pub fn cone_pins(&self, signal: usize) -> usize {
+        let gates = self.gates.iter().zip(self.cone(signal));
+        gates
+            .map(|(gate, within)| usize::from(within) * gate.pins.len())
+            .sum()
+    }
+
     pub fn to_bytes(&self) -> Vec<u8> {
         let mut bytes = b"LCN".to_vec();
         let mut word = |value: usize| bytes.extend((value as u16).to_le_bytes());
@@ -293,6 +315,25 @@ mod tests {
         };
         assert_eq!(check(&netlist), Ok(accepted));
         assert_eq!(decode(&netlist).unwrap().to_bytes(), netlist);
+    }
+
+    #[test]
+    fn cones() {
+        let mut card = decode(&cases::mux_netlist()).unwrap();
+        let (inputs, gates) = (card.inputs, card.gates.len());
+        // an input's is empty, the output's has every gate, the first gate's itself
+        assert_eq!(card.cone(inputs - 1), vec![false; gates]);
+        assert_eq!(card.cone_pins(inputs - 1), 0);
+        assert_eq!(card.cone(card.outputs[0]), vec![true; gates]);
+        assert_eq!(card.cone_pins(card.outputs[0]), card.pin_total());
+        assert_eq!(card.cone(inputs), [true, false, false, false]);
+        // a gate that the output does not read is outside, a pin named twice counts twice
+        card.gates.push(Gate {
+            kind: Kind::And,
+            pins: vec![0, 0],
+        });
+        assert_eq!(card.cone_pins(card.outputs[0]), 7);
+        assert_eq!(card.cone_pins(inputs + gates), 2);
     }
 
     fn with(at: usize, byte: u8) -> Result<Accepted, Refused> {

@@ -462,7 +462,7 @@ mod tests {
     #[test]
     fn damage_is_of_every_sort() {
         let mut random = Random::new(3);
-        let mut met = [0; 22];
+        let mut met = [0; 21];
         for _ in 0..4000 {
             let card = small_card(&mut random);
             let (mut netlist, mut list) = files(&mut random, &card, 2);

@@ -17,9 +17,9 @@ use Rattle.visit.specs.Found.{foundOf}
 use Rattle.visit.specs.Lent.{inputsKnown}
 use Rattle.outputs.proofs.Ready.{output-is, output-below, rows-long}
 use Rattle.core.specs.Core.{searchOf}
-use Rattle.core.specs.Codes.{guardedFound}
+use Rattle.core.specs.Codes.{answeredBy}
 use Rattle.core.proofs.Entry.{list-formed, card-formed, known-is, known-all, searchable, search-is, clean-set}
-use Rattle.core.proofs.Entry.{guard-is, refused-list, refused-change, refused-output, answers}
+use Rattle.core.proofs.Entry.{found-answered, refused-list, refused-change, refused-output, answers}
 use borrow.Author.Needs.{needs}
 use Rattle.core.proofs.core_in.Statement.{statement}
 use Rattle.core.proofs.core_in.Tie as tie
@@ -148,8 +148,8 @@ find-requires c κs =
     let r = searchable (netlist k) (list k) (rows k) (task k) (given k) (begun k .args .change) (f .before .before .search .ensures) _ (known f) (task k .shape .outputs) (omega arith) in
     (r .ready, r .given, omega (arith, below o, all-known f))
 
-guard-requires : tie.Need-guard-requires
-guard-requires c κs = search needs
+answer-requires : tie.Need-answer-requires
+answer-requires c κs = search needs
 
 same-length-3 : tie.Need-same-length-3
 same-length-3 c = search needs
@@ -184,9 +184,10 @@ returns-4 c =
     let o = f .before .before .before .before in
     let k = bound (filled o) in
     let t = begun k .args .change in
-    c .guard .ensures
-    ∙ ap (guardedFound (task k .shape .pins)) (found f)
-    ∙ guard-is (task k .shape .pins) (searchOf (netlist k) (list k) t (output o))
+    let a = searchOf (netlist k) (list k) t (output o) in
+    c .answer .ensures
+    ∙ ap (λ found. answeredBy (found .verdict) (found .gates) (found .pins)) (found f)
+    ∙ found-answered (a .verdict) (a .gates) (a .pins)
     ∙ answers (netlist k) (list k) t (output o) (accepted k) (filled o .before .before .before .before .before .before .if1 .left) (inside o)
 
 pub core-in-spec : {M : Type 1} → statement M
@@ -208,7 +209,7 @@ core-in-spec =
     slice-relend-prefix-find
     slice-aggregate-find
     find-requires
-    guard-requires
+    answer-requires
     same-length-3
     returns-3
     same-length-4

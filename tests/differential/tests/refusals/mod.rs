@@ -12,7 +12,7 @@ pub fn all_met(
     mut call: impl FnMut(&mut Random, &Card, (&[u8], &[u8]), usize) -> u32,
 ) {
     let mut random = Random::new(seed);
-    let mut met = [0; 22];
+    let mut met = [0; 21];
     for _ in 0..3000 {
         let card = random::small_card(&mut random);
         let (netlist, list) = random::damaged_files(&mut random, &card, 2);
