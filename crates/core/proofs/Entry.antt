@@ -29,7 +29,7 @@ use Rattle.visit.specs.Found.{foundOf}
 use Rattle.visit.specs.Lent.{inputsKnown}
 use Rattle.outputs.specs.Lent.{OutputsReady}
 use Rattle.outputs.proofs.Ready.{outputs-ready}
-use Rattle.core.specs.Core.{answered, searchOf, coreFrom, coreAnswer}
+use Rattle.core.specs.Core.{answered, answeredWith, searchOf, coreFrom, coreAnswer}
 use Rattle.core.specs.Codes.{answeredBy}
 use Rattle.core.specs.Lent.{NoneKnown}
 use Rattle.core.proofs.Cards.{sources-known, known-length, known-below, known-afresh}
@@ -124,7 +124,6 @@ module _ (n l : List ℕ) (change output : ℕ) where
       unfolding coreAnswer coreFrom refuse
       refused-output none = rw (e, lt-leb (task .changes) change early, le-leb (task .shape .outputs) output none)
 
-      pub answers : output < task .shape .outputs
-          → answered (searchOf n l change output .verdict) (searchOf n l change output .gates) (searchOf n l change output .pins) ≡ coreAnswer n l change output
+      pub answers : output < task .shape .outputs → answeredWith (searchOf n l change output) ≡ coreAnswer n l change output
       unfolding coreAnswer coreFrom refuse
       answers is = rw (e, lt-leb (task .changes) change early, lt-leb (task .shape .outputs) output is)

@@ -23,13 +23,16 @@ abbrev pub answered : Verdict → (gates pins : ℕ) → Cored
 answered (clean k) gates pins = Clean (code k) gates pins
 answered hazardous gates pins = Hazardous gates pins
 
+abbrev pub answeredWith : Answer → Cored
+answeredWith answer = answered (answer .verdict) (answer .gates) (answer .pins)
+
 -- "CORE: the list's, 18, output not below O 19"; "Places from 18 up are 0 unless given otherwise." Document 02, "Job 8", took the last refusal away.
 unfoldable pub coreFrom : Listed → (change output : ℕ) → Answer → Cored
 coreFrom (list.Refused number place) change output answer = Refused number place
 coreFrom (list.Accepted task) change output answer =
     refuse Refused (leb (task .changes) change) 18 0
     (refuse Refused (leb (task .shape .outputs) output) 19 0
-    (answered (answer .verdict) (answer .gates) (answer .pins)))
+    (answeredWith answer))
 
 unfoldable pub coreAnswer : (netlist list : List ℕ) → (change output : ℕ) → Cored
 coreAnswer n l change output = coreFrom (listChecked n l) change output (searchOf n l change output)

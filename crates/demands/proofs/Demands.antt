@@ -22,8 +22,7 @@ use Rattle.simulate.specs.Full as full
 use Rattle.simulate.specs.Full.{classIn, fullAnswer, fullBuffer}
 use Rattle.simulate.specs.declared.Simulated.the-variants as simulated
 use Rattle.search.specs.Search.{Verdict, clean, hazardous, Answer}
-use Rattle.core.specs.Core.{answered, searchOf, coreFrom, coreAnswer}
-use Rattle.core.specs.declared.Cored.{Cored}
+use Rattle.core.specs.Core.{answered, answeredWith, searchOf, coreFrom, coreAnswer}
 use Rattle.core.specs.declared.Cored.the-variants as cored
 use Rattle.constants.specs.Change.{touchedIn}
 use Rattle.forward.specs.Forward as forward
@@ -48,9 +47,6 @@ forward-chain : (change room touched visited : ℕ) (x : Listed)
 unfolding forward.forwardFrom refuse
 forward-chain change room touched visited (list.Refused number place) = refl
 forward-chain change room touched visited (list.Accepted task) = refl
-
-abbrev answeredWith : Answer → Cored
-answeredWith found = answered (found .verdict) (found .gates) (found .pins)
 
 core-chain : (change output : ℕ) (found : Answer) (x : Listed)
     → chain cored.Refused (answeredWith found) (λ k. leb (k .outputs) output) 19 change x ≡ coreFrom x change output found

@@ -23,7 +23,7 @@ use Rattle.changes.specs.declared.Task.{Task}
 use Rattle.simulate.specs.Full.{classIn, fullAnswer, fullBuffer}
 use Rattle.simulate.specs.declared.Simulated.the-variants as simulated
 use Rattle.search.specs.Cone.{inCone, conePins, PinPath}
-use Rattle.core.specs.Core.{answered, searchOf, coreAnswer}
+use Rattle.core.specs.Core.{answeredWith, searchOf, coreAnswer}
 use Rattle.core.specs.declared.Cored.{Cored}
 use Rattle.core.specs.declared.Cored.the-variants as cored
 use Rattle.constants.specs.Change.{touchedIn}
@@ -106,8 +106,7 @@ pub record Operations (n l : List ℕ) (change output : ℕ) (buffer : List ℕ)
       → (forwardAnswer n l change buffer ≡ forwarded.Refused number place) ↔ FirstMet n l change (length buffer < outputsOf n) 20 number place
   pub forward-untouched : (number place : ℕ) → forwardAnswer n l change buffer ≡ forwarded.Refused number place → forwardBuffer n l change buffer ≡ buffer
   -- "CORE: the list's, 18, output not below O 19", and nothing after it since document 02's Job 8: "Orders ending in 21 end one place earlier."
-  pub core-done : (coreAnswer n l change output ≡ answered (searchOf n l change output .verdict) (searchOf n l change output .gates) (searchOf n l change output .pins))
-      ↔ (Accepted n l change × (output < outputsOf n))
+  pub core-done : (coreAnswer n l change output ≡ answeredWith (searchOf n l change output)) ↔ (Accepted n l change × (output < outputsOf n))
   pub core-refused : (number place : ℕ)
       → (coreAnswer n l change output ≡ cored.Refused number place) ↔ FirstMet n l change (outputsOf n ≤ output) 19 number place
 
