@@ -28,6 +28,24 @@
  *   a buffer's written part is given there too, its later bytes stay.
  * - A refusal: answer[0] is the place, the other words are 0, and a buffer
  *   stays as it was. There is no verdict.
+ *
+ * What a list says of the outputs
+ * -------------------------------
+ * A change is a first and a second vector, a bit for each input in each. In a
+ * version 2 list it also declares how each output should start and end: two rows
+ * follow the second vector, with a bit for each output in each, of declared
+ * starts and of declared ends. A list of either version may go with any netlist.
+ *
+ * Number n is bit n mod 8 of byte n / 8, in vectors and rows; spare bits are 0.
+ * With V bytes of a vector and W bytes of a row, a list of T changes has
+ * 11 + T * 2 * V bytes in version 1, 11 + T * (2 * V + 2 * W) in version 2.
+ *
+ * An output is clean in a change
+ * - of a version 1 list if its class is LANE_0, LANE_1, LANE_R or LANE_F;
+ * - of a version 2 list if its class is the one of these four that has its
+ *   declared start and its declared end.
+ * Otherwise it is hazardous, so that with declared ends an output may be called
+ * hazardous that makes no pulse.
  */
 #ifndef LANE_H
 #define LANE_H
@@ -45,13 +63,15 @@ enum lane_limit {
     LANE_MAX_GATES = 2048,
     LANE_MAX_OUTPUTS = 64,
     LANE_MAX_CHANGES = 1000,
+    /* The largest T of a version 2 list. */
+    LANE_MAX_DECLARED_CHANGES = 800,
     /* I + G: a buffer of this length suits lane_full on every card. */
     LANE_MAX_SIGNALS = LANE_MAX_INPUTS + LANE_MAX_GATES,
     /* T * (I + G) and T * O: buffers of these lengths suit lane_full_all, and
        lane_forward_all and lane_core_all, on every card and list. */
     LANE_MAX_CLASSES = LANE_MAX_CHANGES * LANE_MAX_SIGNALS,
     LANE_MAX_VERDICTS = LANE_MAX_CHANGES * LANE_MAX_OUTPUTS,
-    /* The longest netlist and the longest list, in bytes. */
+    /* The longest netlist and the longest list of either version, in bytes. */
     LANE_MAX_NETLIST = 37003,
     LANE_MAX_LIST = 64011,
     /* Words of an answer. */
@@ -60,7 +80,8 @@ enum lane_limit {
 
 /*
  * The eight classes: what a signal can do during a change, whatever the delays
- * of gates and wires. Codes below LANE_S0 are clean, the others hazardous.
+ * of gates and wires and whatever is declared. Codes below LANE_S0 are clean
+ * classes, the others hazardous ones.
  */
 enum lane_class {
     LANE_0 = 0,      /* stays 0 */
@@ -76,8 +97,8 @@ enum lane_class {
 /* The verdict of an output, in answer[0] of lane_core and in each byte of lane_forward,
    lane_forward_all and lane_core_all. */
 enum lane_verdict {
-    LANE_CLEAN = 0,
-    LANE_HAZARDOUS = 1
+    LANE_CLEAN = 0,    /* a clean class, in version 2 with the declared ends */
+    LANE_HAZARDOUS = 1 /* a hazardous class; in version 2 also ends other than declared */
 };
 
 /* The operations that lane_join joins with. */
@@ -126,12 +147,13 @@ enum lane_refusal {
     /* the list */
     LANE_LIST_SHORT = 11,     /* under 11 bytes; place: its length */
     LANE_LIST_MARK = 12,      /* does not start with LCT; place 0 */
-    LANE_LIST_VERSION = 13,   /* version not 1; place 3 */
+    LANE_LIST_VERSION = 13,   /* version neither 1 nor 2; place 3 */
     LANE_TIE = 14,            /* made for another netlist; place 5 */
-    LANE_CHANGES = 15,        /* more than 1,000 changes; place 9 */
+    LANE_CHANGES = 15,        /* more than 1,000 changes, in version 2 more than 800;
+                                 place 9 */
     LANE_LIST_LENGTH = 16,    /* length not that of its changes; place: its length */
-    LANE_SPARE_BIT = 17,      /* a bit that stands for no input is 1; place: the first byte
-                                 with such a bit */
+    LANE_SPARE_BIT = 17,      /* a bit that stands for no input or, in a row, for no output
+                                 is 1; place: the first byte with such a bit */
 
     /* what the call asks for; place 0 */
     LANE_NO_CHANGE = 18,      /* the list has no change of this number */
@@ -156,7 +178,8 @@ uint32_t lane_netlist(const uint8_t *netlist, size_t netlist_len, uint64_t answe
  *
  *   list, list_len         the contents of lane.lct
  *
- * answer: [0] changes T, [1] bytes of a vector V
+ * answer: [0] changes T, [1] bytes of a vector V, [2] bytes of each row of declared
+ *         ends W: 0 for a version 1 list, which has none
  * Refusals 1 to 17.
  */
 uint32_t lane_list(const uint8_t *netlist, size_t netlist_len,
@@ -164,7 +187,8 @@ uint32_t lane_list(const uint8_t *netlist, size_t netlist_len,
                    uint64_t answer[5]);
 
 /*
- * Full simulation: the class of every signal in one change.
+ * Full simulation: the class of every signal in one change, which does not depend
+ * on what a list declares.
  *
  *   change                 its number, from 0
  *   buffer, buffer_len     gets a class (enum lane_class) in each of its first
@@ -181,6 +205,8 @@ uint32_t lane_full(const uint8_t *netlist, size_t netlist_len,
 
 /*
  * CORE: the verdict of one output in one change, from no more gates than it takes.
+ * With declared ends it looks for their one class alone, which may take fewer. An
+ * output that is an input has its class without a search: 0 gates, 0 pins.
  *
  *   change                 its number, from 0
  *   output                 position among the card's outputs, from 0
@@ -198,7 +224,8 @@ uint32_t lane_core(const uint8_t *netlist, size_t netlist_len,
 
 /*
  * The forward method: the verdicts of all outputs in one change. Constants are
- * spread over the card first, then each output is searched as by lane_core.
+ * spread over the card first, then each output is searched as by lane_core, but
+ * one that is a constant, as one that is an input, is judged without a search.
  *
  *   change                 its number, from 0
  *   buffer, buffer_len     gets a verdict (enum lane_verdict) in each of its

@@ -1,6 +1,8 @@
 /*
  * loader FOLDER: loads the card in a folder, asks the library for all verdicts
- * in one call and decides which outputs may drive their valves.
+ * in one call and decides which outputs may drive their valves. Lists of both
+ * versions are judged alike: where ends are declared, an output with other ends
+ * has a hazard too.
  *
  * It prints the counts, a line for each change and output, what CORE's searches
  * took and what it does with each output. It ends with status 0 if all outputs
@@ -40,7 +42,8 @@ static void load(struct bytes *bytes, const char *folder, const char *name)
 /*
  * The loader's act: only an output that was judged and is clean in every change
  * drives its valve. The verdict of an output in a change is one byte, in the
- * change's row.
+ * change's row. What a version 2 list declares is in it already: an output that
+ * keeps still, but not at the declared value, is held.
  */
 static enum status decide(const uint8_t *verdicts, size_t changes, size_t outputs)
 {

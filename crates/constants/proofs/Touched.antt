@@ -75,7 +75,7 @@ module _ (n l rows : List ℕ) (task : Task) (a : Accepts true n l rows task) (t
   module _ (old : List ℕ) where
     -- the bytes that the inputs' codes are filled in
     abbrev filled : List ℕ
-    filled = inputCodes l (task .width) t i ++ drop i old
+    filled = inputCodes l (task .layout) t i ++ drop i old
 
     -- the touched count
     pub touched-is : touchedBy rows (codesOf rows filled i g (i + g)) i g ≡ touchedIn n l t

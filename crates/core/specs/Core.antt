@@ -3,20 +3,20 @@ use Prim.Native.Nat.{ℕ}
 use mathlib.Core.List.{List}
 use lib.Dec.{leb}
 use Rattle.kung.specs.Class.{code}
-use Rattle.kung.specs.Sets.{cleanSet}
 use Rattle.words.specs.Refusal.{refuse}
 use Rattle.netlist.specs.Netlist.{outputAt}
 use Rattle.changes.specs.declared.Listed.{Listed}
 use Rattle.changes.specs.declared.Listed.the-variants as list
 use Rattle.changes.specs.Changes.{sourcesOf}
 use Rattle.changes.specs.Refusals.{listChecked}
+use Rattle.wanted.specs.Wanted.{wantedIn}
 use Rattle.search.specs.Search.{Verdict, clean, hazardous, Answer, search}
 use Rattle.core.specs.declared.Cored.{Cored}
 use Rattle.core.specs.declared.Cored.the-variants.{Clean, Hazardous, Refused}
 
--- the search of an output in a change: "The output's gate is visited with wanted set {0, 1, R, F}."
+-- the search of an output in a change, whose gate is visited with the output's wanted set
 unfoldable pub searchOf : (netlist list : List ℕ) → (change output : ℕ) → Answer
-searchOf n l change output = search (sourcesOf n l change) cleanSet (outputAt n output)
+searchOf n l change output = search (sourcesOf n l change) (wantedIn n l change output) (outputAt n output)
 
 -- "The answer is clean with its class, or hazardous; with the number of different gates visited and of pins taken."
 abbrev pub answered : Verdict → (gates pins : ℕ) → Cored

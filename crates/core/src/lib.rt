@@ -6,7 +6,6 @@ ghost use Rattle.changes.specs.Lent.{signalsFor};
 ghost use Rattle.core.specs.Core.{coreAnswer};
 ghost use Rattle.core.specs.Codes.{answeredBy};
 use changes::Listed;
-use outputs::CLEAN_SET;
 use visit::Found;
 use visit::Verdict;
 use visit::find;
@@ -71,14 +70,8 @@ fn core_in(
             inputs::fill_inputs(list, task, change, known);
             let signals = shape.inputs + shape.gates;
             let s = rows::output_of(rows, signals, output) as usize;
-            let found = find(
-                &table,
-                rows,
-                &mut known[..signals],
-                shape.inputs,
-                CLEAN_SET,
-                s,
-            );
+            let wanted = wanted::wanted_set(list, task.layout, change, output);
+            let found = find(&table, rows, &mut known[..signals], shape.inputs, wanted, s);
             answer(found)
         }
     }

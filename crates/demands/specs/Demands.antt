@@ -8,26 +8,29 @@ use mathlib.Core.Option.{Option, none, some}
 use lib.Dec.{eqb}
 use lib.ListN.{length, getD}
 use denote.Ref.{RefT, now}
-use Rattle.kung.specs.Class.{code, ofCode, clean, inputClass}
+use Rattle.kung.specs.Class.{Class, code, ofCode, start, end, clean, inputClass}
 use Rattle.kung.specs.Rule.{gateClass}
+use Rattle.kung.specs.Sets.{has}
 use Rattle.circuit.specs.Settled.{settled}
 use Rattle.records.specs.Records.{kindAt, countAt, pastRecord, leastPins, mostPins}
 use Rattle.netlist.specs.Netlist.{inputsOf, gatesOf, outputsOf, outputAt, gateKind, gatePins, pinTotal, cardOf, accepted, checked}
 use Rattle.netlist.specs.Proper.{Proper, conditions, firstMet}
 use Rattle.netlist.specs.declared.Checked.the-variants as netlist
-use Rattle.changes.specs.Changes.{first, second, bitOf, widthOf}
+use Rattle.changes.specs.Changes.{versionOf, layoutIn, first, second, starts, ends, bitOf}
 use Rattle.changes.specs.Refusals.{listChecked}
 use Rattle.changes.specs.Proper.{ProperList, listConditions, listAccepted}
 use Rattle.changes.specs.declared.Listed.the-variants as list
 use Rattle.changes.specs.declared.Task.{Task}
 use Rattle.simulate.specs.Full.{classIn, fullAnswer, fullBuffer}
 use Rattle.simulate.specs.declared.Simulated.the-variants as simulated
+use Rattle.wanted.specs.Wanted.{wantedIn}
+use Rattle.search.specs.Search.{Answer, judged}
 use Rattle.search.specs.Cone.{inCone, conePins, PinPath}
 use Rattle.core.specs.Core.{answeredWith, searchOf, coreAnswer}
 use Rattle.core.specs.declared.Cored.{Cored}
 use Rattle.core.specs.declared.Cored.the-variants as cored
-use Rattle.constants.specs.Change.{touchedIn}
-use Rattle.forward.specs.Forward.{visitedIn, forwardAnswer, forwardBuffer}
+use Rattle.constants.specs.Change.{constantsIn, touchedIn}
+use Rattle.forward.specs.Forward.{outputSearch, visitedIn, forwardAnswer, forwardBuffer}
 use Rattle.forward.specs.declared.Forwarded.the-variants as forwarded
 use Rattle.walk.specs.declared.Walk.{Walk}
 use Rattle.walk.specs.Walk.{part, handed, stepped, opened, HandsBack}
@@ -45,10 +48,17 @@ pub record Accepted (n l : List ℕ) (change : ℕ) : Type 0 where
 
 -- the two vectors of a change, input by input
 abbrev pub firstVector : (n l : List ℕ) → (change : ℕ) → ℕ → Bool
-firstVector n l change = bitOf l (widthOf (inputsOf n)) change first
+firstVector n l change = bitOf l (layoutIn n l) change first
 
 abbrev pub secondVector : (n l : List ℕ) → (change : ℕ) → ℕ → Bool
-secondVector n l change = bitOf l (widthOf (inputsOf n)) change second
+secondVector n l change = bitOf l (layoutIn n l) change second
+
+-- the declared start and end of an output in a change of a version 2 list
+abbrev pub declaredStart : (n l : List ℕ) → (change output : ℕ) → Bool
+declaredStart n l change = bitOf l (layoutIn n l) change starts
+
+abbrev pub declaredEnd : (n l : List ℕ) → (change output : ℕ) → Bool
+declaredEnd n l change = bitOf l (layoutIn n l) change ends
 
 -- The methods' verdicts
 
@@ -62,11 +72,13 @@ cleanBy (cored.Hazardous gates pins) = some false
 cleanBy (cored.Refused number place) = none
 
 -- "Full simulation calls an output clean when its signal's code is a clean class, the forward method by the byte 0, CORE by its answer; otherwise
--- they call it hazardous. A refused call gives no verdict." A call, with the buffer lent to it, and whether it calls the output clean.
+-- they call it hazardous. A refused call gives no verdict."; "For a version 2 list full simulation calls an output clean when its signal's code is the
+-- clean class with the declared ends": in both versions a class of the wanted set. A call, with the buffer lent to it, and whether it calls the output
+-- clean.
 abbrev pub Calls : Method → (n l : List ℕ) → (change output : ℕ) → Bool → Type 0
 Calls full n l change output called =
     (buffer : List ℕ) × (fullAnswer n l change buffer ≡ simulated.Done)
-    × (clean (ofCode (getD (fullBuffer n l change buffer) (outputAt n output) 0)) ≡ called)
+    × (has (wantedIn n l change output) (ofCode (getD (fullBuffer n l change buffer) (outputAt n output) 0)) ≡ called)
 Calls forward n l change output called =
     (buffer : List ℕ) × (touched : ℕ) × (visited : ℕ) × (forwardAnswer n l change buffer ≡ forwarded.Done touched visited)
     × (eqb (getD (forwardBuffer n l change buffer) output 0) 0 ≡ called)
@@ -157,7 +169,18 @@ pub record Demand1 : Type 0 where
   pub step : (w : Walk) → Step w
 
 -- Demand 2. "Every signal's class is the one that Kung's eight-valued tables give; the forward method and CORE call an output clean exactly when its
--- class is 0, 1, R or F, and their counts are those of document 01's searches."
+-- class is 0, 1, R or F, and their counts are those of document 01's searches." Document 02, "Job 1": "In version 2, clean means that the class is the
+-- clean one with the declared ends".
+pub record CleanWith (class : Class) (declared-start declared-end : Bool) : Type 0 where
+  pub is-clean : clean class ≡ true
+  pub starts-so : start class ≡ declared-start
+  pub ends-so : end class ≡ declared-end
+
+-- a class that is judged "without a search, at 0 gates and 0 pins"
+abbrev pub compared : (n l : List ℕ) → (change output : ℕ) → Answer
+compared n l change output =
+    record { verdict = judged (wantedIn n l change output) (classIn n l change (outputAt n output)); gates = 0; pins = 0 }
+
 pub record Demand2 (n l : List ℕ) (change : ℕ) : Type 0 where
   -- an input's class is by its two bits, a gate's by the rule over all its pins
   pub input-class : (i : ℕ) → i < inputsOf n → classIn n l change i ≡ inputClass (firstVector n l change i) (secondVector n l change i)
@@ -166,9 +189,24 @@ pub record Demand2 (n l : List ℕ) (change : ℕ) : Type 0 where
   -- full simulation writes these classes' codes
   pub full-codes : (buffer : List ℕ) → fullAnswer n l change buffer ≡ simulated.Done → (s : ℕ) → s < inputsOf n + gatesOf n
       → getD (fullBuffer n l change buffer) s 0 ≡ code (classIn n l change s)
-  -- every method calls an output clean exactly when its class is clean
+  -- the wanted set of an output holds the clean classes in version 1; in version 2 it "holds only that class"
+  pub wanted-one : versionOf l ≡ 1 → (output : ℕ) (k : Class) → has (wantedIn n l change output) k ≡ clean k
+  pub wanted-two : versionOf l ≡ 2 → (output : ℕ) (k : Class)
+      → (has (wantedIn n l change output) k ≡ true) ↔ CleanWith k (declaredStart n l change output) (declaredEnd n l change output)
+  -- every method calls an output clean exactly when its class is in the wanted set
   pub verdicts : (m : Method) (output : ℕ) → output < outputsOf n → (called : Bool) → Calls m n l change output called
+      → called ≡ has (wantedIn n l change output) (classIn n l change (outputAt n output))
+  -- so in version 1 "exactly when its class is 0, 1, R or F"
+  pub verdicts-one : versionOf l ≡ 1 → (m : Method) (output : ℕ) → output < outputsOf n → (called : Bool) → Calls m n l change output called
       → called ≡ clean (classIn n l change (outputAt n output))
+  -- and in version 2 exactly when "the class is the clean one with the declared ends"
+  pub verdicts-two : versionOf l ≡ 2 → (m : Method) (output : ℕ) → output < outputsOf n → (called : Bool) → Calls m n l change output called
+      → (called ≡ true) ↔ CleanWith (classIn n l change (outputAt n output)) (declaredStart n l change output) (declaredEnd n l change output)
+  -- "An output on an input, or on a constant signal in the forward method, is compared with the declared ends without a search, at 0 gates and 0 pins."
+  pub core-input : (output : ℕ) → outputAt n output < inputsOf n → searchOf n l change output ≡ compared n l change output
+  pub forward-input : (output : ℕ) → outputAt n output < inputsOf n → outputSearch n l change output ≡ compared n l change output
+  pub forward-constant : (output : ℕ) → output < outputsOf n → (k : Class) → constantsIn n l change (outputAt n output) ≡ some k
+      → outputSearch n l change output ≡ compared n l change output
   -- CORE's class is the signal's, its counts are the search's
   pub core-clean : (output class gates pins : ℕ) → output < outputsOf n → coreAnswer n l change output ≡ cored.Clean class gates pins
       → (class ≡ code (classIn n l change (outputAt n output))) × (gates ≡ searchOf n l change output .gates) × (pins ≡ searchOf n l change output .pins)
@@ -179,15 +217,50 @@ pub record Demand2 (n l : List ℕ) (change : ℕ) : Type 0 where
       → (touched ≡ touchedIn n l change) × (visited ≡ visitedIn n l change)
 
 -- Demand 3: "a single claim about the whole list of events, and not one for each event".
+-- "at least two changes more than its ends need", after a list of events
+abbrev pub TwiceMore : (n l : List ℕ) → (change output : ℕ) → List Event → Type 0
+TwiceMore n l change output es =
+    needs (cardOf n) (firstVector n l change) (secondVector n l change) (outputAt n output) + 2
+    ≤ (after (cardOf n) (firstVector n l change) (secondVector n l change) es) .changes (outputAt n output)
+
+-- "no change more than its ends need", after a list of events
+abbrev pub NoMore : (n l : List ℕ) → (change output : ℕ) → List Event → Type 0
+NoMore n l change output es =
+    (after (cardOf n) (firstVector n l change) (secondVector n l change) es) .changes (outputAt n output)
+    ≤ needs (cardOf n) (firstVector n l change) (secondVector n l change) (outputAt n output)
+
+-- the output's values before and after a list of events are the declared ones
+abbrev pub StartsAsDeclared : (n l : List ℕ) → (change output : ℕ) → Type 0
+StartsAsDeclared n l change output = settled (cardOf n) (firstVector n l change) (outputAt n output) ≡ declaredStart n l change output
+
+abbrev pub EndsAsDeclared : (n l : List ℕ) → (change output : ℕ) → List Event → Type 0
+EndsAsDeclared n l change output es =
+    signalValue (cardOf n) (firstVector n l change) (after (cardOf n) (firstVector n l change) (secondVector n l change) es) (outputAt n output)
+    ≡ declaredEnd n l change output
+
+-- Version 2: "the output starts and ends as declared and makes no change more than its ends need"
+pub record AsDeclared (n l : List ℕ) (change output : ℕ) (es : List Event) : Type 0 where
+  pub starts-so : StartsAsDeclared n l change output
+  pub ends-so : EndsAsDeclared n l change output es
+  pub no-more : NoMore n l change output es
+
+-- and what "shows otherwise": its start, its end, or at least two changes more
+pub data Otherwise (n l : List ℕ) (change output : ℕ) (es : List Event) : Type 0 where
+  other-start : (StartsAsDeclared n l change output → ⊥) → Otherwise n l change output es
+  other-end : (EndsAsDeclared n l change output es → ⊥) → Otherwise n l change output es
+  twice-more : TwiceMore n l change output es → Otherwise n l change output es
+
 -- An order that shows every hazard, "gate after gate and the same for every output and method"
 pub record ShowsAll (n l : List ℕ) (change : ℕ) (order : List Event) : Type 0 where
   pub is-order : Order (cardOf n) (firstVector n l change) (secondVector n l change) order
   pub gate-after-gate : GateAfterGate order
   pub complete : Complete (cardOf n) (firstVector n l change) (secondVector n l change) order
-  -- "gives each output called hazardous at least two changes more than its ends need"
-  pub twice-more : (m : Method) (output : ℕ) → output < outputsOf n → Calls m n l change output false
-      → needs (cardOf n) (firstVector n l change) (secondVector n l change) (outputAt n output) + 2
-      ≤ (after (cardOf n) (firstVector n l change) (secondVector n l change) order) .changes (outputAt n output)
+  -- version 1: "gives each output called hazardous at least two changes more than its ends need"
+  pub all-twice-more : versionOf l ≡ 1 → (m : Method) (output : ℕ) → output < outputsOf n → Calls m n l change output false
+      → TwiceMore n l change output order
+  -- version 2: "shows otherwise" of each output called hazardous
+  pub all-otherwise : versionOf l ≡ 2 → (m : Method) (output : ℕ) → output < outputsOf n → Calls m n l change output false
+      → Otherwise n l change output order
 
 pub record Demand3 (n l : List ℕ) (change : ℕ) : Type 0 where
   -- "every list of events can be carried on to a complete one"
@@ -201,9 +274,11 @@ pub record Demand3 (n l : List ℕ) (change : ℕ) : Type 0 where
       → signalValue (cardOf n) (firstVector n l change) (after (cardOf n) (firstVector n l change) (secondVector n l change) es) s
       ≡ settled (cardOf n) (secondVector n l change) s
   -- "after any list an output called clean has changed at most once, and not at all when its ends agree": at most as often as its ends need
-  pub stays-clean : (es : List Event) (m : Method) (output : ℕ) → output < outputsOf n → Calls m n l change output true
-      → (after (cardOf n) (firstVector n l change) (secondVector n l change) es) .changes (outputAt n output)
-      ≤ needs (cardOf n) (firstVector n l change) (secondVector n l change) (outputAt n output)
+  pub stays-clean : (es : List Event) (m : Method) (output : ℕ) → output < outputsOf n → Calls m n l change output true → NoMore n l change output es
+  -- version 2, clean: "in every complete order the output starts and ends as declared and makes no change more than its ends need"; in every complete
+  -- list, order or not
+  pub as-declared : versionOf l ≡ 2 → (es : List Event) → Complete (cardOf n) (firstVector n l change) (secondVector n l change) es
+      → (m : Method) (output : ℕ) → output < outputsOf n → Calls m n l change output true → AsDeclared n l change output es
   -- "one complete order"
   pub hazard : (order : List Event) × ShowsAll n l change order
 

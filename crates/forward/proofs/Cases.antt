@@ -13,10 +13,11 @@ use Rattle.words.specs.Refusal.{refuse}
 use Rattle.tie.specs.Tie.{tieFrom, tieOf}
 use Rattle.records.specs.Records as records
 use Rattle.netlist.specs.Netlist as netlist
-use Rattle.changes.specs.Changes.{bitAt, inputClassAt, sourcesOf}
+use Rattle.changes.specs.Changes.{bitAt, classAt, sourcesOf}
 use Rattle.changes.specs.Refusals as list
 use Rattle.search.specs.Search.{search, visit, takePins, takePin, driverOf, checks, sameResult, only, onlyOf, possibleOf, total, put, cellAt, cellOf}
 use Rattle.search.specs.Search as search
+use Rattle.wanted.specs.Wanted.{wantedAt}
 use Rattle.search.specs.Pins.{sumBelow}
 use Rattle.simulate.proofs.Cases.{muxNetlist, muxList}
 use Rattle.constants.specs.Constants.{allKnown, follows, spread, knownSources, touched}
@@ -27,11 +28,11 @@ use Rattle.forward.specs.Forward.{outputSearch, forwardBytes, visitedIn,
 
 -- the answer, and the buffer of two bytes after it
 called : (netlist list : List ℕ) → Forwarded × List ℕ
-unfolding forwardAnswer forwardBuffer forwardFrom touchedIn outputSearch forwardBytes visitedIn touched allKnown follows spread knownSources sumBelow tab
+unfolding forwardAnswer forwardBuffer forwardFrom touchedIn outputSearch wantedAt forwardBytes visitedIn touched allKnown follows spread knownSources sumBelow tab
     search visit takePins takePin driverOf checks sameResult only onlyOf possibleOf total put cellAt cellOf search.judged
     ofCode setOf has meets image possible wantedFor join joinAll rule.andAll rule.orAll rule.each rule.some rule.gateClass rule.kindOf
-    sources sourcesOf inputClassAt bitAt wordAt longAt wordsAt marked outside tieOf tieFrom
-    list.listChecked list.against list.afterNetlist list.sparesFrom list.spareAt list.spareBits
+    sources sourcesOf classAt bitAt wordAt longAt wordsAt marked outside tieOf tieFrom
+    list.listChecked list.against list.afterNetlist list.sparesFrom list.sparePair list.spareAt list.spareBits
     netlist.checked netlist.checkedWithin netlist.bodyWithin netlist.body netlist.accepted netlist.outputs netlist.counts netlist.opening
     netlist.recordsFrom netlist.recordAt records.mostPins records.leastPins records.noKind netlist.wordsBelow
     refuse netlist.pinsBelow netlist.placeOf netlist.cardOf

@@ -12,7 +12,6 @@ use lib.Seq.{getD-take, length-take-le}
 use borrow.Author.Tests.{lt-ltb}
 use Rattle.kung.specs.Class.{Class, c0, code, ofCode}
 use Rattle.kung.specs.Rule.{gateClass}
-use Rattle.kung.specs.Sets.{cleanSet}
 use Rattle.kung.specs.Tables.{tab}
 use Rattle.kung.specs.Lookup.{searchTable}
 use Rattle.kung.proofs.Finite.{ofCode-code}
@@ -29,6 +28,8 @@ use Rattle.changes.specs.Lent.{Accepts, signalsOf}
 use Rattle.changes.proofs.Accepted.{listed}
 use Rattle.inputs.specs.Written.{inputCodes, written}
 use Rattle.inputs.proofs.Laws.{written-all, written-kept}
+use Rattle.wanted.specs.Sets.{setsAt}
+use Rattle.wanted.proofs.Laws.{sets-in}
 use Rattle.search.specs.Search.{search}
 use Rattle.search.specs.Pins.{sumBelow}
 use Rattle.sweep.specs.Sweep.{codesOf, isConstantCode, touchedBy}
@@ -88,7 +89,7 @@ module _ (n l rows : List ℕ) (task : Task) (a : Accepts true n l rows task) (t
 
   -- the bytes that the inputs' codes are filled in, and those that the gate pass then leaves
   abbrev filled : List ℕ
-  filled = inputCodes l (task .width) t i ++ drop i old
+  filled = inputCodes l (task .layout) t i ++ drop i old
 
   abbrev swept : List ℕ
   swept = codes n l t ++ drop (i + g) old
@@ -178,20 +179,22 @@ module _ (n l rows : List ℕ) (task : Task) (a : Accepts true n l rows task) (t
           ∙ sym (known-given (sourcesOf n l t) (inputsOf n + gatesOf n) s c0 d)
 
   -- so the searches are those of the forward method
-  search-is : (out : ℕ) → out < o → searchFrom rows known (i + g) out ≡ outputSearch n l t out
-  unfolding searchFrom outputSearch
-  search-is out h = ap₂ (λ src s. search src cleanSet s) (fun-ext source-at) (output-is n l rows task a out h)
+  module _ (wanted : List ℕ) (wants : wanted ≡ setsAt l (task .layout) t) where
+    search-is : (out : ℕ) → out < o → searchFrom rows known wanted (i + g) out ≡ outputSearch n l t out
+    unfolding searchFrom outputSearch
+    search-is out h =
+        λ i. search (fun-ext source-at i) (sets-in n l (a .accepted) t wanted wants out h i) (output-is n l rows task a out h i)
 
-  pub visited-is : sumFrom (λ a. a .gates) rows known (i + g) o ≡ visitedIn n l t
-  unfolding visitedIn
-  visited-is = sum-ext _ _ o (λ out h. ap (λ a. a .gates) (search-is out h)) ∙ ap (sumBelow _) (f .outputs-are)
+    pub visited-is : sumFrom (λ a. a .gates) rows known wanted (i + g) o ≡ visitedIn n l t
+    unfolding visitedIn
+    visited-is = sum-ext _ _ o (λ out h. ap (λ a. a .gates) (search-is out h)) ∙ ap (sumBelow _) (f .outputs-are)
 
-  pub bytes-are : (buffer : List ℕ) → written buffer 0 (byteFrom rows known (i + g)) o ≡ forwardBytes n l t ++ drop o buffer
-  unfolding forwardBytes
-  bytes-are buffer =
-      written-all buffer (byteFrom rows known (i + g)) o
-      ∙ ap (λ bytes. bytes ++ drop o buffer)
-      (tab-ext _ _ o (λ out h. ap (λ a. verdictByte (a .verdict)) (search-is out h)) ∙ ap (tab _ 0) (f .outputs-are))
+    pub bytes-are : (buffer : List ℕ) → written buffer 0 (byteFrom rows known wanted (i + g)) o ≡ forwardBytes n l t ++ drop o buffer
+    unfolding forwardBytes
+    bytes-are buffer =
+        written-all buffer (byteFrom rows known wanted (i + g)) o
+        ∙ ap (λ bytes. bytes ++ drop o buffer)
+        (tab-ext _ _ o (λ out h. ap (λ a. verdictByte (a .verdict)) (search-is out h)) ∙ ap (tab _ 0) (f .outputs-are))
 
   -- an input's byte is a class, and a gate's is one or 8
   known-below : (s : ℕ) → s < i → getD known s 0 < 8
@@ -225,9 +228,9 @@ module _ (n l rows : List ℕ) (task : Task) (a : Accepts true n l rows task) (t
     pub known-by : (after : List ℕ) → after ≡ knownCodes (sweptCodes rows now i g) i g → take (i + g) after ≡ known
     known-by after d = ap (take (i + g)) (d ∙ ap (λ b. knownCodes (sweptCodes rows b i g) i g) e ∙ ap (λ b. knownCodes b i g) swept-is)
 
-  module _ (k : List ℕ) (e : k ≡ known) where
-    pub visited-by : (r : ℕ) → r ≡ sumFrom (λ a. a .gates) rows k (i + g) o → r ≡ visitedIn n l t
-    visited-by r d = d ∙ ap (λ k. sumFrom (λ a. a .gates) rows k (i + g) o) e ∙ visited-is
+  module _ (wanted : List ℕ) (wants : wanted ≡ setsAt l (task .layout) t) (k : List ℕ) (e : k ≡ known) where
+    pub visited-by : (r : ℕ) → r ≡ sumFrom (λ a. a .gates) rows k wanted (i + g) o → r ≡ visitedIn n l t
+    visited-by r d = d ∙ ap (λ k. sumFrom (λ a. a .gates) rows k wanted (i + g) o) e ∙ visited-is wanted wants
 
-    pub bytes-by : (buffer exit : List ℕ) → exit ≡ written buffer 0 (byteFrom rows k (i + g)) o → exit ≡ forwardBytes n l t ++ drop o buffer
-    bytes-by buffer exit d = d ∙ ap (λ k. written buffer 0 (byteFrom rows k (i + g)) o) e ∙ bytes-are buffer
+    pub bytes-by : (buffer exit : List ℕ) → exit ≡ written buffer 0 (byteFrom rows k wanted (i + g)) o → exit ≡ forwardBytes n l t ++ drop o buffer
+    bytes-by buffer exit d = d ∙ ap (λ k. written buffer 0 (byteFrom rows k wanted (i + g)) o) e ∙ bytes-are wanted wants buffer

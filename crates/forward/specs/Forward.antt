@@ -3,7 +3,6 @@ use Prim.Native.Nat.{ℕ, _+_}
 use mathlib.Core.List.{List, _++_}
 use lib.Dec.{leb, ltb}
 use lib.ListN.{length, drop}
-use Rattle.kung.specs.Sets.{cleanSet}
 use Rattle.kung.specs.Tables.{tab}
 use Rattle.words.specs.Refusal.{refuse}
 use Rattle.netlist.specs.Netlist.{inputsOf, gatesOf, outputsOf, outputAt}
@@ -11,6 +10,7 @@ use Rattle.changes.specs.declared.Listed.{Listed}
 use Rattle.changes.specs.declared.Listed.the-variants as list
 use Rattle.changes.specs.Changes.{sourcesOf}
 use Rattle.changes.specs.Refusals.{listChecked}
+use Rattle.wanted.specs.Wanted.{wantedIn}
 use Rattle.search.specs.Search.{Answer, search}
 use Rattle.search.specs.Pins.{sumBelow}
 use Rattle.outputs.specs.Outputs.{verdictByte}
@@ -19,9 +19,10 @@ use Rattle.constants.specs.Change.{touchedIn}
 use Rattle.forward.specs.declared.Forwarded.{Forwarded}
 use Rattle.forward.specs.declared.Forwarded.the-variants.{Done, Refused}
 
--- "Each output is then searched as in CORE, afresh, constant gates being known; one on a constant signal is clean with 0 gates visited."
+-- "Each output is then searched as in CORE, afresh, constant gates being known; one on a constant signal is clean with 0 gates visited." In version 2
+-- such a one "is compared with the declared ends without a search".
 unfoldable pub outputSearch : (netlist list : List ℕ) → (t output : ℕ) → Answer
-outputSearch n l t o = search (knownSources (sourcesOf n l t) (inputsOf n + gatesOf n)) cleanSet (outputAt n o)
+outputSearch n l t o = search (knownSources (sourcesOf n l t) (inputsOf n + gatesOf n)) (wantedIn n l t o) (outputAt n o)
 
 -- "The first O bytes of a lent buffer get 0 (clean) or 1 (hazardous)"
 unfoldable pub forwardBytes : (netlist list : List ℕ) → (t : ℕ) → List ℕ

@@ -85,10 +85,12 @@ fn forward_in(
             inputs::fill_inputs(list, task, change, known);
             let touched = spread(&table, rows, shape.inputs, shape.gates, known, hot);
             let signals = shape.inputs + shape.gates;
+            let wanted = wanted::wanted_sets(list, task.layout, change);
             let searched = outputs::search_outputs(
                 &search,
                 rows,
                 shape,
+                &wanted,
                 &mut known[..signals],
                 buffer,
             );

@@ -1,10 +1,10 @@
--- Laws of tabled codes. Assumes nothing.
-use Prim.Native.Nat.{ℕ, zero, suc, _+_, _*_, _/_, _%_, _≤_, _<_}
+-- Laws of tabled codes, and of numbers in a row. Assumes nothing.
+use Prim.Native.Nat.{ℕ, zero, suc, _+_, _-_, _*_, _/_, _%_, _≤_, _<_}
 use native.Mathlib.Omega.{arith}
 use native.Mathlib.Nat.{zero-add, add-zero}
-use mathlib.Core.Path.{_≡_, refl, sym, _∙_, ap}
+use mathlib.Core.Path.{_≡_, refl, sym, _∙_, ap, ap₂}
 use mathlib.Core.List.{List, [], _∷_, _++_, append-assoc}
-use lib.ListN.{length, take, drop, set, length-append, take-append-drop, length-drop}
+use lib.ListN.{length, take, drop, set, replicate, length-append, take-append-drop, length-drop}
 use lib.Seq.{take-at, drop-at, drop-cons, drop-drop, set-at, length-take-le}
 use lib.Bits.{bitXor}
 use lib.Dec.{eqb}
@@ -12,11 +12,16 @@ use Rattle.kung.specs.Class.{code, inputClass}
 use Rattle.kung.specs.Tables.{tab}
 use Rattle.kung.proofs.Listed.{length-tab}
 use Rattle.words.specs.Words.{byteAt}
-use Rattle.changes.specs.Changes.{sizeOf, bitAt, inputClassAt}
-use Rattle.inputs.specs.Written.{codeAt, codeIn, written}
+use Rattle.changes.specs.Changes.{bitAt, classAt}
+use Rattle.inputs.specs.Written.{codeFrom, codeIn, written}
+
+pub drop-replicate : (i m a : ℕ) → drop i (replicate m a) ≡ replicate (m - i) a
+drop-replicate zero m a = let e : m - 0 ≡ m = omega arith in rw e
+drop-replicate (suc i) zero a = let e : 0 - suc i ≡ 0 = omega arith in rw e
+drop-replicate (suc i) (suc m) a = let e : suc m - suc i ≡ m - i = omega arith in rw e (drop-replicate i m a)
 
 module _ (f : ℕ → ℕ) where
-  tab-add : (i n m : ℕ) → tab f i (n + m) ≡ tab f i n ++ tab f (i + n) m
+  pub tab-add : (i n m : ℕ) → tab f i (n + m) ≡ tab f i n ++ tab f (i + n) m
   unfolding tab
   tab-add i zero m = rw (zero-add, add-zero)
   tab-add i (suc n) m =
@@ -28,7 +33,7 @@ tab-more : (f : ℕ → ℕ) (n : ℕ) → tab f 0 (n + 1) ≡ tab f 0 n ++ (f n
 unfolding tab
 tab-more f n = tab-add f 0 n 1 ∙ rw zero-add
 
-tab-ext : (f g : ℕ → ℕ) (i j n : ℕ) → ((k : ℕ) → k < n → f (i + k) ≡ g (j + k)) → tab f i n ≡ tab g j n
+pub tab-ext : (f g : ℕ → ℕ) (i j n : ℕ) → ((k : ℕ) → k < n → f (i + k) ≡ g (j + k)) → tab f i n ≡ tab g j n
 unfolding tab
 tab-ext f g i j zero h = refl
 tab-ext f g i j (suc n) h = rw (here, tab-ext f g (suc i) (suc j) n next)
@@ -68,6 +73,11 @@ module _ (old : List ℕ) (at : ℕ) (f : ℕ → ℕ) where
         length-drop (at + n) old,
       )
 
+-- from the start on
+pub written-next : (old : List ℕ) (f : ℕ → ℕ) (n : ℕ) → n < length old → (now : List ℕ) → now ≡ written old 0 f n → (value : ℕ) → value ≡ f n
+    → set now n value ≡ written old 0 f (n + 1)
+written-next old f n h now e value v = ap₂ (λ now value. set now n value) e v ∙ rw zero-add at (written-more old 0 f n (rw zero-add h))
+
 pub written-all : (old : List ℕ) (f : ℕ → ℕ) (n : ℕ) → written old 0 f n ≡ tab f 0 n ++ drop n old
 unfolding written
 written-all old f n = rw zero-add
@@ -98,14 +108,14 @@ class-code zero (suc (suc b)) h l = absurd (omega arith)
 class-code (suc zero) (suc (suc b)) h l = absurd (omega arith)
 
 -- the inputs of one byte of the vectors behind those of the first j
-module _ (l : List ℕ) (width t j a b : ℕ) (first : a ≡ byteAt l (11 + t * sizeOf width + j)) (second : b ≡ byteAt l (11 + t * sizeOf width + width + j)) where
-  code-behind : (k : ℕ) → k < 8 → codeAt l width t (8 * j + k) ≡ codeIn a b k
-  unfolding inputClassAt bitAt
+module _ (l : List ℕ) (first second j a b : ℕ) (one : a ≡ byteAt l (first + j)) (two : b ≡ byteAt l (second + j)) where
+  pub code-behind : (k : ℕ) → k < 8 → codeFrom l first second (8 * j + k) ≡ codeIn a b k
+  unfolding classAt bitAt
   code-behind k h =
       let q : (8 * j + k) / 8 ≡ j = omega arith in
       let r : (8 * j + k) % 8 ≡ k = omega arith in
-      rw (q, r, first, second)
+      rw (q, r, one, two)
 
-  pub byte-written : (old now : List ℕ) (m : ℕ) → m ≤ 8 → now ≡ written old 0 (codeAt l width t) (8 * j)
-      → written now (8 * j) (codeIn a b) m ≡ written old 0 (codeAt l width t) (8 * j + m)
-  byte-written old now m h e = rw e (written-then old (codeAt l width t) (codeIn a b) (8 * j) m (λ k l. code-behind k (omega arith)))
+  pub byte-written : (old now : List ℕ) (m : ℕ) → m ≤ 8 → now ≡ written old 0 (codeFrom l first second) (8 * j)
+      → written now (8 * j) (codeIn a b) m ≡ written old 0 (codeFrom l first second) (8 * j + m)
+  byte-written old now m h e = rw e (written-then old (codeFrom l first second) (codeIn a b) (8 * j) m (λ k l. code-behind k (omega arith)))

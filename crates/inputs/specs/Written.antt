@@ -4,16 +4,20 @@ use mathlib.Core.List.{List, _++_}
 use lib.ListN.{take, drop}
 use Rattle.kung.specs.Class.{code, inputClass}
 use Rattle.kung.specs.Tables.{tab}
-use Rattle.changes.specs.Changes.{bitIn, inputClassAt}
+use Rattle.changes.specs.declared.Layout.{Layout}
+use Rattle.changes.specs.Changes.{bitIn, classAt, inputClassAt}
 
--- an input's code, and those of the first n inputs
-abbrev pub codeAt : List ℕ → (width t i : ℕ) → ℕ
-codeAt l width t i = code (inputClassAt l width t i)
+-- the code of the class whose ends are bit i of the parts at two places; an input's code, and those of the first n inputs
+abbrev pub codeFrom : List ℕ → (start end i : ℕ) → ℕ
+codeFrom l start end i = code (classAt l start end i)
 
-abbrev pub inputCodes : List ℕ → (width t n : ℕ) → List ℕ
-inputCodes l width t n = tab (codeAt l width t) 0 n
+abbrev pub codeAt : List ℕ → Layout → (t i : ℕ) → ℕ
+codeAt l layout t i = code (inputClassAt l layout t i)
 
--- the code of the class of the input that has bit k of two bytes
+abbrev pub inputCodes : List ℕ → Layout → (t n : ℕ) → List ℕ
+inputCodes l layout t n = tab (codeAt l layout t) 0 n
+
+-- the code of the clean class whose ends are bit k of two bytes
 abbrev pub codeIn : (a b k : ℕ) → ℕ
 codeIn a b k = code (inputClass (bitIn a k) (bitIn b k))
 

@@ -7,8 +7,8 @@ ghost use Rattle.inputs.specs.Written.{inputCodes, codeIn, written};
 use changes::Task;
 use words::byte_at;
 
-// The class of an input by bit k of its two bytes.
-fn class_of_bits(first: u8, second: u8, k: usize) -> u8
+// The class of an input by bit k of its two bytes: the clean one with these ends.
+pub fn class_of_bits(first: u8, second: u8, k: usize) -> u8
     requires { ⌜ k < 8 ⌝ }
     ensures { λ r. ⌜ r ≡ codeIn first second k ⌝ }
 {
@@ -29,13 +29,14 @@ fn fill_byte(first: u8, second: u8, count: usize, at: usize, buffer: &mut [u8])
 
 // Writes the classes of the inputs in change t into the first bytes of the buffer.
 pub fn fill_inputs(list: &[u8], task: Task, t: usize, buffer: &mut [u8])
-    requires { ⌜ (task .width ≤ 32) × (t ≤ 1000) × (task .shape .inputs ≤ length (now buffer)) ⌝ }
-    ensures { λ r. ⌜ now (buffer .exit) ≡ inputCodes (now (list .entry)) (task .width) t (task .shape .inputs) ++ drop (task .shape .inputs) (now (buffer .entry)) ⌝ }
+    requires { ⌜ (task .layout .width ≤ 32) × (task .layout .row ≤ 8) × (t ≤ 1000) × (task .shape .inputs ≤ length (now buffer)) ⌝ }
+    ensures { λ r. ⌜ now (buffer .exit) ≡ inputCodes (now (list .entry)) (task .layout) t (task .shape .inputs) ++ drop (task .shape .inputs) (now (buffer .entry)) ⌝ }
 {
     let shape = task.shape;
     let inputs = shape.inputs;
-    let width = task.width;
-    let first = 11 + t * (2 * width);
+    let layout = task.layout;
+    let width = layout.width;
+    let first = 11 + t * (2 * width + 2 * layout.row);
     let second = first + width;
     let whole = inputs / 8;
     for j in 0..whole {

@@ -183,9 +183,12 @@ unfolding trailingZeros setOf everyClass
 lowest-only k = eqb→eq _ _ (class-at (λ c. eqb (trailingZeros 8 (setOf (same c))) (code c)) tt k)
 
 -- a class by the set of it alone
-pub lowest-one : (k : Class) → trailingZeros 8 (insert 0 k) ≡ code k
+pub insert-one : (k : Class) → insert 0 k ≡ setOf (same k)
 unfolding insert
-lowest-one k = ap (trailingZeros 8) (setOf-ext _ _ (λ c. (λ i. has-none c i || same k c))) ∙ lowest-only k
+insert-one k = setOf-ext _ _ (λ c. (λ i. has-none c i || same k c))
+
+pub lowest-one : (k : Class) → trailingZeros 8 (insert 0 k) ≡ code k
+lowest-one k = ap (trailingZeros 8) (insert-one k) ∙ lowest-only k
 
 pub lowest-image : (o : Op) (p k : Class) → trailingZeros 8 (image o p (insert 0 k)) ≡ code (join o p k)
 lowest-image o p k = ap (trailingZeros 8) (image-one o p k) ∙ lowest-only (join o p k)

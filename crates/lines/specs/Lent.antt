@@ -34,5 +34,5 @@ textIn lines change o = textOf (lineIn lines change o)
 -- the classes of a change at the start of a buffer
 abbrev pub classesFrom : (list : List ℕ) → Task → (rows : List ℕ) → (change : ℕ) → (buffer : List ℕ) → List ℕ
 classesFrom l task rows change buffer =
-    let filled = inputCodes l (task .width) change (task .shape .inputs) ++ drop (task .shape .inputs) buffer in
+    let filled = inputCodes l (task .layout) change (task .shape .inputs) ++ drop (task .shape .inputs) buffer in
     codesOf rows filled (task .shape .inputs) (task .shape .gates) (signalsOf (task .shape)) ++ drop (signalsOf (task .shape)) filled

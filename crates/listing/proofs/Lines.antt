@@ -59,17 +59,17 @@ module _ (l : List ℕ) (at a b c d : ℕ) where
     fourth : getD four (at + 3) 0 ≡ d
     fourth = getD-set-same three (at + 3) d 0 (simp length-set (omega arith))
 
-module _ {rows known classes lines : List ℕ} {n o : ℕ} where
+module _ {rows known wanted classes lines : List ℕ} {n o : ℕ} where
   -- one output more
-  pub lined-more : Lined rows known classes n lines o → 4 * o + 4 ≤ length lines → (class : ℕ) → class ≡ getD classes (outputIn rows n o) 0
-      → (found : Found) → found ≡ foundOf (searchFrom rows known n o) → (lines′ : List ℕ) → lines′ ≡ keptAt lines (4 * o) class found
-      → Lined rows known classes n lines′ (o + 1)
-  lined-more lined room class k found f lines′ e = subst (λ x. Lined rows known classes n x (o + 1)) (sym e) (record { each = λ i h. go i h (decLt i o) })
+  pub lined-more : Lined rows known wanted classes n lines o → 4 * o + 4 ≤ length lines → (class : ℕ) → class ≡ getD classes (outputIn rows n o) 0
+      → (found : Found) → found ≡ foundOf (searchFrom rows known wanted n o) → (lines′ : List ℕ) → lines′ ≡ keptAt lines (4 * o) class found
+      → Lined rows known wanted classes n lines′ (o + 1)
+  lined-more lined room class k found f lines′ e = subst (λ x. Lined rows known wanted classes n x (o + 1)) (sym e) (record { each = λ i h. go i h (decLt i o) })
     where
       new : List ℕ
       new = keptAt lines (4 * o) class found
 
-      go : (i : ℕ) → i < o + 1 → Dec (i < o) → Numbers rows known classes n new i
+      go : (i : ℕ) → i < o + 1 → Dec (i < o) → Numbers rows known wanted classes n new i
       go i h (yes early) =
           let old = lined .each i early in
           let same = before-four lines (4 * o) class (foundByte (found .verdict)) (found .gates) (found .pins) in
@@ -81,12 +81,12 @@ module _ {rows known classes lines : List ℕ} {n o : ℕ} where
           }
       go i h (no late) =
           let here : i ≡ o = omega arith in
-          subst (Numbers rows known classes n new) (sym here)
+          subst (Numbers rows known wanted classes n new) (sym here)
           (record {
             class-is = first lines (4 * o) class (foundByte (found .verdict)) (found .gates) (found .pins) room ∙ k;
             byte-is =
                 second lines (4 * o) class (foundByte (found .verdict)) (found .gates) (found .pins) room
-                ∙ ap (λ f. foundByte (f .verdict)) f ∙ byte-code ((searchFrom rows known n o) .verdict);
+                ∙ ap (λ f. foundByte (f .verdict)) f ∙ byte-code ((searchFrom rows known wanted n o) .verdict);
             gates-are = third lines (4 * o) class (foundByte (found .verdict)) (found .gates) (found .pins) room ∙ ap (λ f. f .gates) f;
             pins-are = fourth lines (4 * o) class (foundByte (found .verdict)) (found .gates) (found .pins) room ∙ ap (λ f. f .pins) f;
           })

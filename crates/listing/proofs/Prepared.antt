@@ -8,16 +8,17 @@ use lib.Dec.{eqb}
 use lib.ListN.{length, getD, List·getD-append}
 use Rattle.kung.specs.Class.{Class, c0, classes, code, ofCode}
 use Rattle.kung.proofs.Finite.{ofCode-code}
-use Rattle.kung.specs.Sets.{cleanSet}
 use Rattle.rows.specs.Rows.{outputIn}
 use Rattle.netlist.specs.Netlist.{inputsOf, gatesOf, outputsOf, outputAt}
 use Rattle.netlist.specs.Formed.{Formed}
 use Rattle.changes.specs.declared.Task.{Task}
-use Rattle.changes.specs.Changes.{widthOf, inputClassAt, sourcesOf}
+use Rattle.changes.specs.Changes.{layoutIn, inputClassAt, sourcesOf}
 use Rattle.changes.specs.Formed.{ListFormed}
 use Rattle.changes.specs.Lent.{Accepts, signalsOf}
 use Rattle.simulate.specs.Full.{codes, classIn}
 use Rattle.simulate.proofs.Theorems.{codes-length, codes-at}
+use Rattle.wanted.specs.Sets.{setsAt}
+use Rattle.wanted.proofs.Laws.{sets-in}
 use Rattle.search.specs.Search.{Verdict, clean, hazardous, search}
 use Rattle.visit.specs.Lent.{inputsKnown}
 use Rattle.core.specs.Core.{searchOf}
@@ -50,8 +51,9 @@ module _ (n l rows : List ℕ) (task : Task) (a : Accepts true n l rows task) (c
   card-formed = entry.card-formed n l rows task a change
 
   -- the numbers that are kept of the outputs make their lines
-  module _ (known classes rest lines : List ℕ) (known-are : known ≡ inputsKnown (inputsOf n) (gatesOf n) (inputClassAt l (widthOf (inputsOf n)) change))
-      (classes-are : classes ≡ codes n l change ++ rest) (lined : Lined rows known classes (signalsOf (task .shape)) lines (task .shape .outputs)) where
+  module _ (known classes rest lines : List ℕ) (known-are : known ≡ inputsKnown (inputsOf n) (gatesOf n) (inputClassAt l (layoutIn n l) change))
+      (classes-are : classes ≡ codes n l change ++ rest) (wanted : List ℕ)
+      (wants : wanted ≡ setsAt l (task .layout) change) (lined : Lined rows known wanted classes (signalsOf (task .shape)) lines (task .shape .outputs)) where
     line-same : (o : ℕ) → o < task .shape .outputs → textIn lines change o ≡ outputLine n l change o
     unfolding textIn outputLine searchOf searchFrom
     line-same o h =
@@ -76,10 +78,10 @@ module _ (n l rows : List ℕ) (task : Task) (a : Accepts true n l rows task) (c
             ∙ codes-at n l change s below)
             ∙ kept-class (classIn n l change s)
 
-        answer : searchFrom rows known (signalsOf (task .shape)) o ≡ searchOf n l change o
+        answer : searchFrom rows known wanted (signalsOf (task .shape)) o ≡ searchOf n l change o
         answer =
-            entry.search-is n l rows task a change known known-are cleanSet (outputIn rows (signalsOf (task .shape)) o)
-            ∙ ap (search (sourcesOf n l change) cleanSet) at
+            entry.search-is n l rows task a change known known-are (getD wanted o 0) (outputIn rows (signalsOf (task .shape)) o)
+            ∙ ap₂ (search (sourcesOf n l change)) (sets-in n l (a .accepted) change wanted wants o h) at
 
         verdict : eqb (getD lines (4 * o + 1) 0) 0 ≡ isClean (searchOf n l change o .verdict)
         verdict = ap (λ b. eqb b 0) (lined .each o h .byte-is ∙ ap (λ a. verdictByte (a .verdict)) answer) ∙ clean-byte (searchOf n l change o .verdict)

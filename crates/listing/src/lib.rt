@@ -10,7 +10,6 @@ ghost use Rattle.listing.specs.Lent.{Lined};
 use changes::Listed;
 use changes::Task;
 use netlist::Shape;
-use outputs::CLEAN_SET;
 
 // The most bytes of the first line.
 const LINE: usize = 64;
@@ -45,24 +44,25 @@ fn put_first(netlist: &[u8], list: &[u8], buffer: &mut [u8]) -> Piece
     }
 }
 
-// Searches all outputs of a change and keeps what is found, with the classes that full simulation gives. What is known stays.
+// Searches all outputs of a change, each with its wanted set, and keeps what is found, with the classes that full simulation gives. What is known stays.
 fn judge_outputs(
     table: &[u8; 4888],
     rows: &[u16],
     shape: Shape,
+    wanted: &[u8; 64],
     known: &mut [u8],
     classes: &[u8],
     lines: &mut [u16],
 )
     requires { ⌜ OutputsReady (now table) (now rows) (now known) shape 64 ⌝ }
     requires { ⌜ (length (now known) ≤ length (now classes)) × (256 ≤ length (now lines)) ⌝ }
-    ensures lines { λ r. ⌜ Lined (now (rows .entry)) (now (known .entry)) (now (classes .entry)) (signalsOf shape) (now (lines .exit)) (shape .outputs) ⌝ }
+    ensures lines { λ r. ⌜ Lined (now (rows .entry)) (now (known .entry)) (now (wanted .entry)) (now (classes .entry)) (signalsOf shape) (now (lines .exit)) (shape .outputs) ⌝ }
     ensures known { λ r. ⌜ now (known .exit) ≡ now (known .entry) ⌝ }
 {
     let signals = shape.inputs + shape.gates;
     for output in 0..shape.outputs {
         let s = rows::output_of(rows, signals, output) as usize;
-        let found = visit::find(table, rows, known, shape.inputs, CLEAN_SET, s);
+        let found = visit::find(table, rows, known, shape.inputs, wanted[output], s);
         lines::keep_found(lines, 4 * output, classes[s], found);
     }
 }
@@ -92,10 +92,12 @@ fn put_page(
     while ROOM <= buffer.len() - at {
         lines::classify(&gates, netlist, list, task, rows, change, &mut classes);
         inputs::fill_inputs(list, task, change, &mut known);
+        let wanted = wanted::wanted_sets(list, task.layout, change);
         judge_outputs(
             &table,
             rows,
             shape,
+            &wanted,
             &mut known[..signals],
             &classes,
             &mut lines,

@@ -4,13 +4,13 @@ use native.Mathlib.Omega.{arith}
 use native.Mathlib.Numerals.{add-one}
 use native.Mathlib.Nat.{add-comm, suc-mul, le-trans}
 use mathlib.Core.Bool.{true}
-use mathlib.Core.Path.{_≡_, refl, sym, _∙_, ap}
+use mathlib.Core.Path.{_≡_, refl, sym, _∙_, ap, ap₂}
 use mathlib.Core.List.{List, _++_}
 use mathlib.Core.Option.{Option}
-use lib.ListN.{drop}
+use lib.ListN.{getD, drop}
 use Rattle.kung.specs.Class.{Class}
 use Rattle.kung.specs.Rule.{some}
-use Rattle.kung.specs.Sets.{bit, cleanSet}
+use Rattle.kung.specs.Sets.{bit}
 use Rattle.kung.specs.Tables.{tab}
 use Rattle.kung.proofs.Unions.{bit-lt}
 use Rattle.kung.proofs.Listed.{length-tab}
@@ -20,13 +20,15 @@ use Rattle.netlist.specs.Formed.{Formed}
 use Rattle.netlist.proofs.Accepted.{formed}
 use Rattle.changes.specs.declared.Task.{Task}
 use Rattle.changes.specs.declared.Listed.the-variants.{Accepted}
-use Rattle.changes.specs.Changes.{widthOf, inputClassAt}
+use Rattle.changes.specs.Changes.{layoutIn, inputClassAt}
 use Rattle.changes.specs.Lent.{Accepts, signalsOf}
 use Rattle.changes.specs.Refusals.{listChecked}
 use Rattle.changes.proofs.Accepted.{listed}
 use Rattle.inputs.specs.Written.{written}
 use Rattle.inputs.proofs.Laws.{written-all}
 use Rattle.simulate.proofs.Theorems.{codes-length}
+use Rattle.wanted.specs.Sets.{setsAt}
+use Rattle.wanted.proofs.Laws.{sets-in}
 use Rattle.search.specs.Search.{Answer, search}
 use Rattle.search.specs.Pins.{sumBelow}
 use Rattle.visit.specs.Lent.{inputsKnown}
@@ -116,26 +118,27 @@ module _ {task : Task} (n l : List ℕ) (accepted : listChecked n l ≡ Accepted
 
 -- CORE on a change: the inputs are known, and no gate
 module _ (n l rows : List ℕ) (task : Task) (a : Accepts true n l rows task) (c : ℕ) (known : List ℕ)
-    (is : known ≡ inputsKnown (inputsOf n) (gatesOf n) (inputClassAt l (widthOf (inputsOf n)) c)) where
+    (is : known ≡ inputsKnown (inputsOf n) (gatesOf n) (inputClassAt l (layoutIn n l) c)) (wanted : List ℕ) (wants : wanted ≡ setsAt l (task .layout) c) where
   abbrev outputs : ℕ
   outputs = task .shape .outputs
 
   abbrev signals : ℕ
   signals = signalsOf (task .shape)
 
-  search-same : (out : ℕ) → out < outputs → searchFrom rows known signals out ≡ searchOf n l c out
+  search-same : (out : ℕ) → out < outputs → searchFrom rows known wanted signals out ≡ searchOf n l c out
   unfolding searchFrom searchOf
   search-same out h =
-      search-is n l rows task a c known is cleanSet _ ∙ ap (search _ cleanSet) (output-is n l rows task a out h)
+      search-is n l rows task a c known is (getD wanted out 0) _
+      ∙ ap₂ (search _) (sets-in n l (a .accepted) c wanted wants out h) (output-is n l rows task a out h)
 
-  pub sums-are : (count : Answer → ℕ) → sumFrom count rows known signals outputs ≡ coreSum count n l c
+  pub sums-are : (count : Answer → ℕ) → sumFrom count rows known wanted signals outputs ≡ coreSum count n l c
   unfolding coreSum
   sums-are count =
       sum-ext _ _ outputs (λ out h. ap count (search-same out h)) ∙ ap (sumBelow _) (card n l (a .accepted) .outputs-are)
 
-  pub bytes-are : (old : List ℕ) → written old 0 (byteFrom rows known signals) outputs ≡ coreBytes n l c ++ drop outputs old
+  pub bytes-are : (old : List ℕ) → written old 0 (byteFrom rows known wanted signals) outputs ≡ coreBytes n l c ++ drop outputs old
   unfolding coreBytes
   bytes-are old =
-      written-all old (byteFrom rows known signals) outputs
+      written-all old (byteFrom rows known wanted signals) outputs
       ∙ ap (λ bytes. bytes ++ drop outputs old)
       (tab-ext _ _ outputs (λ out h. ap (λ a. verdictByte (a .verdict)) (search-same out h)) ∙ ap (tab _ 0) (card n l (a .accepted) .outputs-are))

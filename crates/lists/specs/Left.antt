@@ -25,4 +25,4 @@ knownConstants n l task t known =
 
 -- the inputs' codes alone
 abbrev pub filled : (list : List ℕ) → Task → (t : ℕ) → (known : List ℕ) → List ℕ
-filled l task t known = inputCodes l (task .width) t (task .shape .inputs) ++ drop (task .shape .inputs) known
+filled l task t known = inputCodes l (task .layout) t (task .shape .inputs) ++ drop (task .shape .inputs) known

@@ -79,10 +79,12 @@ pub fn forward_rows(
         let at = change * outputs;
         inputs::fill_inputs(list, task, change, known);
         touched += forward::spread(&table, rows, shape.inputs, shape.gates, known, hot);
+        let wanted = wanted::wanted_sets(list, task.layout, change);
         let searched = outputs::search_outputs(
             &search,
             rows,
             shape,
+            &wanted,
             &mut known[..signals],
             &mut buffer[at..],
         );
@@ -119,10 +121,12 @@ pub fn core_rows(
     for change in 0..task.changes {
         let at = change * outputs;
         inputs::fill_inputs(list, task, change, known);
+        let wanted = wanted::wanted_sets(list, task.layout, change);
         let searched = outputs::search_outputs(
             &search,
             rows,
             shape,
+            &wanted,
             &mut known[..signals],
             &mut buffer[at..],
         );

@@ -1,21 +1,20 @@
 -- Laws of the outputs' searches. Assumes nothing.
 use Prim.Native.Nat.{ℕ, zero, suc, _+_, _*_, _≤_, _<_}
 use native.Mathlib.Omega.{arith}
-use native.Mathlib.Nat.{zero-add, add-comm, le-trans}
+use native.Mathlib.Nat.{add-comm, le-trans}
 use native.Mathlib.Decide.{decLt}
 use native.Mathlib.Numerals.{add-one}
-use mathlib.Core.Path.{_≡_, refl, _∙_, ap, ap₂}
+use mathlib.Core.Path.{_≡_, refl, _∙_, ap}
 use mathlib.Core.Bool.{true}
 use mathlib.Core.List.{List}
 use lib.ListN.{length, getD, set, length-replicate}
 use Rattle.kung.specs.Class.{Class}
-use Rattle.kung.specs.Sets.{setOf}
 use Rattle.kung.specs.Operation.{opOf, unit}
 use Rattle.kung.proofs.Listed.{length-tab}
 use Rattle.circuit.specs.Circuit.{Source, given, gate, pinsOf}
 use Rattle.rows.specs.Rows.{rowPins, outputIn}
 use Rattle.inputs.specs.Written.{written}
-use Rattle.inputs.proofs.Laws.{written-more}
+use Rattle.inputs.proofs.Laws.{written-next}
 use Rattle.search.specs.Search as search
 use Rattle.search.specs.Search.{Answer, answerOf, search, visit, endFrom, fresh, nobody}
 use Rattle.search.specs.Pins.{sumBelow, pinsIn}
@@ -66,28 +65,29 @@ module _ {table rows known : List ℕ} (r : SearchReady table rows known) where
       le-trans (search-pins src (λ s. true) (closed-all src) w s (length known) refl below)
       (omega (arith, sum-few (length known), r .few-signals))
 
+  pub found-few : (w s : ℕ) → s < length known → (found : Found) → found ≡ foundOf (search (sourceFrom rows known) w s)
+      → (found .gates ≤ suc s) × (found .pins ≤ 8 * 2304)
+  found-few w s below found is = rw is (search-few (sourceFrom rows known) w s, taken-few w s below)
+
 pub byte-code : (v : search.Verdict) → foundByte (verdictCode v) ≡ verdictByte v
 byte-code (search.clean k) = refl
 byte-code search.hazardous = refl
 
 -- what is found of output o of a card of n signals
-module _ (rows known : List ℕ) (n o s : ℕ) (at : s ≡ outputIn rows n o) (found : Found)
-    (is : found ≡ foundOf (search (sourceFrom rows known) 15 s)) where
-  pub found-is : found ≡ foundOf (searchFrom rows known n o)
-  unfolding searchFrom setOf
-  found-is = is ∙ ap (λ s. foundOf (search (sourceFrom rows known) 15 s)) at
+module _ (rows known wanted : List ℕ) (n o s : ℕ) (at : s ≡ outputIn rows n o) (found : Found)
+    (is : found ≡ foundOf (search (sourceFrom rows known) (getD wanted o 0) s)) where
+  pub found-is : found ≡ foundOf (searchFrom rows known wanted n o)
+  unfolding searchFrom
+  found-is = is ∙ ap (λ s. foundOf (search (sourceFrom rows known) (getD wanted o 0) s)) at
 
-  pub found-few : {table : List ℕ} → SearchReady table rows known → s < length known → (found .gates ≤ suc s) × (found .pins ≤ 8 * 2304)
-  found-few r below = rw is (search-few (sourceFrom rows known) 15 s, taken-few r 15 s below)
-
-  pub found-next : (count : Answer → ℕ) (sum more : ℕ) → sum ≡ sumFrom count rows known n o → more ≡ count (searchFrom rows known n o)
-      → sum + more ≡ sumFrom count rows known n (o + 1)
+  pub found-next : (count : Answer → ℕ) (sum more : ℕ) → sum ≡ sumFrom count rows known wanted n o → more ≡ count (searchFrom rows known wanted n o)
+      → sum + more ≡ sumFrom count rows known wanted n (o + 1)
   unfolding sumBelow
   found-next count sum more e m = rw (e, m, add-one o) (add-comm _ _)
 
-  pub found-byte : (old now : List ℕ) → now ≡ written old 0 (byteFrom rows known n) o → o < length old
+  pub found-byte : (old now : List ℕ) → now ≡ written old 0 (byteFrom rows known wanted n) o → o < length old
       → (byte : ℕ) → byte ≡ foundByte (found .verdict)
-      → set now o byte ≡ written old 0 (byteFrom rows known n) (o + 1)
+      → set now o byte ≡ written old 0 (byteFrom rows known wanted n) (o + 1)
   found-byte old now e h byte b =
-      ap₂ (λ now byte. set now o byte) e (b ∙ ap (λ f. foundByte (f .verdict)) found-is ∙ byte-code ((searchFrom rows known n o) .verdict))
-      ∙ rw zero-add at (written-more old 0 (byteFrom rows known n) o (rw zero-add h))
+      written-next old (byteFrom rows known wanted n) o h now e byte
+      (b ∙ ap (λ f. foundByte (f .verdict)) found-is ∙ byte-code ((searchFrom rows known wanted n o) .verdict))

@@ -23,8 +23,9 @@ unfoldable pub netlistAnswer : Checked → Answer
 netlistAnswer (netlist.Accepted shape) = accepted (shape .inputs) (shape .gates) (shape .outputs) (shape .pins) (shape .entries)
 netlistAnswer (netlist.Refused number place) = refused number place
 
+-- the changes, the bytes of a vector, and those of a row of declared ends, 0 in version 1
 unfoldable pub listAnswer : Listed → Answer
-listAnswer (list.Accepted task) = accepted (task .changes) (task .width) 0 0 0
+listAnswer (list.Accepted task) = accepted (task .changes) (task .layout .width) (task .layout .row) 0 0
 listAnswer (list.Refused number place) = refused number place
 
 -- opening a walk: where it starts, by number and place, and how many records it has to hand back

@@ -47,7 +47,8 @@ pub fn put_listed(answer: &mut [u64; 5], listed: Listed) -> u32
     match listed {
         Listed::Refused(number, place) => refuse(answer, number, place),
         Listed::Accepted(task) => {
-            put(answer, task.changes, task.width, 0, 0, 0);
+            let layout = task.layout;
+            put(answer, task.changes, layout.width, layout.row, 0, 0);
             0
         }
     }

@@ -11,7 +11,7 @@ use Rattle.tie.specs.Tie.{tieFrom, tieOf}
 use Rattle.records.specs.Records as records
 use Rattle.netlist.specs.Netlist as netlist
 use Rattle.changes.specs.declared.Listed.the-variants.{Accepted}
-use Rattle.changes.specs.Changes.{bitAt, inputClassAt, sourcesOf}
+use Rattle.changes.specs.Changes.{bitAt, classAt, sourcesOf}
 use Rattle.changes.specs.Refusals as list
 use Rattle.simulate.specs.Full.{codes}
 
@@ -39,7 +39,7 @@ cases =
     ∷ record { found = codes muxNetlist muxList 0; due = 1 ∷ 1 ∷ 3 ∷ 2 ∷ 3 ∷ 2 ∷ 5 ∷ [] } ∷ []
 
 cases-hold : map (λ x. x .found) cases ≡ map (λ x. x .due) cases
-unfolding cases gives gateClass andAll orAll each some codes values sources sourcesOf inputClassAt bitAt netlist.cardOf netlist.placeOf wordsAt wordAt kindOf
+unfolding cases gives gateClass andAll orAll each some codes values sources sourcesOf classAt bitAt netlist.cardOf netlist.placeOf wordsAt wordAt kindOf
 cases-hold = refl
 
 -- the whole way: the tie, the netlist's and the list's acceptance
@@ -48,6 +48,6 @@ unfolding tieOf tieFrom
 mux-tie = refl
 
 mux-accepted : list.listChecked muxNetlist muxList
-    ≡ Accepted (record { shape = record { inputs = 3; gates = 4; outputs = 1; pins = 7; entries = 33 }; changes = 1; width = 1 })
-unfolding list.listChecked list.against list.afterNetlist list.sparesFrom list.spareAt list.spareBits netlist.checked netlist.checkedWithin netlist.bodyWithin netlist.body netlist.accepted netlist.shapeOf netlist.outputs netlist.counts netlist.opening netlist.recordsFrom netlist.recordAt records.mostPins records.leastPins records.noKind netlist.wordsBelow refuse netlist.pinsBelow netlist.placeOf wordAt longAt marked outside tieOf tieFrom
+    ≡ Accepted (record { shape = record { inputs = 3; gates = 4; outputs = 1; pins = 7; entries = 33 }; changes = 1; layout = record { version = 1; width = 1; row = 0 } })
+unfolding list.listChecked list.against list.afterNetlist list.sparesFrom list.sparePair list.spareAt list.spareBits netlist.checked netlist.checkedWithin netlist.bodyWithin netlist.body netlist.accepted netlist.shapeOf netlist.outputs netlist.counts netlist.opening netlist.recordsFrom netlist.recordAt records.mostPins records.leastPins records.noKind netlist.wordsBelow refuse netlist.pinsBelow netlist.placeOf wordAt longAt marked outside tieOf tieFrom
 mux-accepted = refl

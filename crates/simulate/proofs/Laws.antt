@@ -20,10 +20,10 @@ use Rattle.netlist.specs.Formed.{Formed}
 use Rattle.netlist.proofs.Accepted.{formed}
 use Rattle.netlist.proofs.Decoded.{decoded-sources}
 use Rattle.changes.specs.declared.Task.{Task}
-use Rattle.changes.specs.Changes.{widthOf, inputClassAt, sourcesOf}
+use Rattle.changes.specs.Changes.{layoutIn, inputClassAt, sourcesOf}
 use Rattle.changes.specs.Formed.{ListFormed}
 use Rattle.changes.specs.Lent.{Accepts, signalsOf}
-use Rattle.changes.proofs.Accepted.{listed}
+use Rattle.changes.proofs.Accepted.{listed, laid}
 use Rattle.inputs.specs.Written.{inputCodes, codeAt}
 use Rattle.sweep.specs.Sweep.{sourcesIn, codesOf}
 use Rattle.sweep.specs.Lent.{Passable}
@@ -43,11 +43,11 @@ module _ (n l rows : List ℕ) (task : Task) (a : Accepts true n l rows task) (t
   gates = task .shape .gates
 
   abbrev filled : List ℕ
-  filled = inputCodes l (task .width) t inputs ++ drop inputs old
+  filled = inputCodes l (task .layout) t inputs ++ drop inputs old
 
-  input-at : (i : ℕ) → i < inputs → getD filled i 0 ≡ code (inputClassAt l (task .width) t i)
+  input-at : (i : ℕ) → i < inputs → getD filled i 0 ≡ code (inputClassAt l (task .layout) t i)
   input-at i h =
-      List·getD-append (inputCodes l (task .width) t inputs) (drop inputs old) 0 i (rw length-tab h) ∙ getD-tab (codeAt l (task .width) t) inputs i h
+      List·getD-append (inputCodes l (task .layout) t inputs) (drop inputs old) 0 i (rw length-tab h) ∙ getD-tab (codeAt l (task .layout) t) inputs i h
 
   -- the buffer can be passed
   pub filled-passable : (now : List ℕ) → now ≡ filled → (hots : ℕ) → signalsOf (task .shape) ≤ length old → signalsOf (task .shape) ≤ hots
@@ -59,9 +59,9 @@ module _ (n l rows : List ℕ) (task : Task) (a : Accepts true n l rows task) (t
         gates-high = card .gates-high;
         gate = λ g h. row g h;
         repeats = λ g h. again g h;
-        room = omega (arith, length-append (inputCodes l (task .width) t inputs) (drop inputs old), length-tab (codeAt l (task .width) t) 0 inputs, length-drop inputs old);
+        room = omega (arith, length-append (inputCodes l (task .layout) t inputs) (drop inputs old), length-tab (codeAt l (task .layout) t) 0 inputs, length-drop inputs old);
         hot-room = hot;
-        coded = λ i h. rw (input-at i h) (code-lt (inputClassAt l (task .width) t i));
+        coded = λ i h. rw (input-at i h) (code-lt (inputClassAt l (task .layout) t i));
       })
     where
       row : (g : ℕ) → g < gates → GateRow rows (inputs + g)
@@ -77,10 +77,10 @@ module _ (n l rows : List ℕ) (task : Task) (a : Accepts true n l rows task) (t
       ∙ decoded-sources (a .decoded) c0 (λ k. ofCode (getD filled k 0))
       ∙ sources-ext (cardOf n) c0 _ _ same
     where
-      same : (i : ℕ) → i < inputsOf n → ofCode (getD filled i 0) ≡ inputClassAt l (widthOf (inputsOf n)) t i
+      same : (i : ℕ) → i < inputsOf n → ofCode (getD filled i 0) ≡ inputClassAt l (layoutIn n l) t i
       same i h =
           ap ofCode (input-at i (omega (arith, card .inputs-are))) ∙ ofCode-code _
-          ∙ ap (λ w. inputClassAt l w t i) (list-formed .width-is ∙ ap widthOf (card .inputs-are))
+          ∙ ap (λ w. inputClassAt l w t i) (laid n l (a .accepted))
 
   -- and gets the classes of the change
   pub filled-codes : codesOf rows filled inputs gates (signalsOf (task .shape)) ≡ codes n l t
@@ -90,8 +90,8 @@ module _ (n l rows : List ℕ) (task : Task) (a : Accepts true n l rows task) (t
   -- what stands after the signals stays
   pub filled-after : drop (signalsOf (task .shape)) filled ≡ drop (signalsOf (task .shape)) old
   filled-after =
-      ap (λ n. drop (n + gates) filled) (sym (length-tab (codeAt l (task .width) t) 0 inputs))
-      ∙ drop-append-add (inputCodes l (task .width) t inputs) (drop inputs old) gates ∙ drop-drop gates inputs old
+      ap (λ n. drop (n + gates) filled) (sym (length-tab (codeAt l (task .layout) t) 0 inputs))
+      ∙ drop-append-add (inputCodes l (task .layout) t inputs) (drop inputs old) gates ∙ drop-drop gates inputs old
 
   pub swept : (now : List ℕ) → now ≡ filled → (exit : List ℕ)
       → exit ≡ codesOf rows now inputs gates (signalsOf (task .shape)) ++ drop (signalsOf (task .shape)) now → exit ≡ codes n l t ++ drop (signalsOf (task .shape)) old

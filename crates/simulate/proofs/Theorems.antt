@@ -13,12 +13,12 @@ use Rattle.circuit.proofs.Ends.{class-gate, start-is, end-is}
 use Rattle.netlist.specs.Netlist.{inputsOf, gatesOf, gateKind, gatePins, cardOf}
 use Rattle.netlist.specs.Formed.{Formed}
 use Rattle.netlist.specs.declared.Shape.{Shape}
-use Rattle.changes.specs.Changes.{widthOf, first, second, bitOf, inputClassAt, sourcesOf}
+use Rattle.changes.specs.Changes.{layoutIn, first, second, bitOf, classAt, sourcesOf}
 use Rattle.simulate.specs.Full.{classIn, codes}
 
 -- the class is the value that the sources give
 pub class-value : (n l : List ℕ) (t s : ℕ) → classIn n l t s ≡ value gateClass c0 (sourcesOf n l t) s
-unfolding classIn classOf sourcesOf inputClassAt
+unfolding classIn classOf sourcesOf classAt
 class-value n l t s = refl
 
 -- a code for each signal
@@ -40,15 +40,15 @@ module _ {shape : Shape} (n l : List ℕ) (t : ℕ) (formed : Formed n shape) wh
   pub class-law : (h : ℕ) → h < shape .gates → classIn n l t (shape .inputs + h) ≡ gateClass (gateKind n h) (map (classIn n l t) (gatePins n h))
   unfolding classIn cardOf
   class-law h below =
-      ap (λ x. classOf (cardOf n) (bitOf l (widthOf (inputsOf n)) t first) (bitOf l (widthOf (inputsOf n)) t second) (x + h)) (formed .inputs-are)
-      ∙ class-gate (cardOf n) (formed .well-formed) (bitOf l (widthOf (inputsOf n)) t first) (bitOf l (widthOf (inputsOf n)) t second) h
+      ap (λ x. classOf (cardOf n) (bitOf l (layoutIn n l) t first) (bitOf l (layoutIn n l) t second) (x + h)) (formed .inputs-are)
+      ∙ class-gate (cardOf n) (formed .well-formed) (bitOf l (layoutIn n l) t first) (bitOf l (layoutIn n l) t second) h
       (omega (arith, formed .gates-are))
 
   -- a class starts and ends at the values settled at the first and at the second vector
-  pub starts : (s : ℕ) → settled (cardOf n) (bitOf l (widthOf (inputsOf n)) t first) s ≡ start (classIn n l t s)
+  pub starts : (s : ℕ) → settled (cardOf n) (bitOf l (layoutIn n l) t first) s ≡ start (classIn n l t s)
   unfolding classIn
-  starts = start-is (cardOf n) (formed .well-formed) (bitOf l (widthOf (inputsOf n)) t first) (bitOf l (widthOf (inputsOf n)) t second)
+  starts = start-is (cardOf n) (formed .well-formed) (bitOf l (layoutIn n l) t first) (bitOf l (layoutIn n l) t second)
 
-  pub ends : (s : ℕ) → settled (cardOf n) (bitOf l (widthOf (inputsOf n)) t second) s ≡ end (classIn n l t s)
+  pub ends : (s : ℕ) → settled (cardOf n) (bitOf l (layoutIn n l) t second) s ≡ end (classIn n l t s)
   unfolding classIn
-  ends = end-is (cardOf n) (formed .well-formed) (bitOf l (widthOf (inputsOf n)) t first) (bitOf l (widthOf (inputsOf n)) t second)
+  ends = end-is (cardOf n) (formed .well-formed) (bitOf l (layoutIn n l) t first) (bitOf l (layoutIn n l) t second)

@@ -11,14 +11,14 @@ use Rattle.words.specs.Refusal.{refuse}
 use Rattle.netlist.specs.Netlist.{inputsOf, gatesOf, cardOf}
 use Rattle.changes.specs.declared.Listed.{Listed}
 use Rattle.changes.specs.declared.Listed.the-variants as list
-use Rattle.changes.specs.Changes.{widthOf, first, second, bitOf, sourcesOf}
+use Rattle.changes.specs.Changes.{layoutIn, first, second, bitOf, sourcesOf}
 use Rattle.changes.specs.Refusals.{listChecked}
 use Rattle.simulate.specs.declared.Simulated.{Simulated}
 use Rattle.simulate.specs.declared.Simulated.the-variants.{Done, Refused}
 
 -- each signal's class in change t: an input's by its two bits, a gate's by the rule over all its pins, gate 0 first
 unfoldable pub classIn : (netlist list : List ℕ) → (t signal : ℕ) → Class
-classIn n l t = classOf (cardOf n) (bitOf l (widthOf (inputsOf n)) t first) (bitOf l (widthOf (inputsOf n)) t second)
+classIn n l t = classOf (cardOf n) (bitOf l (layoutIn n l) t first) (bitOf l (layoutIn n l) t second)
 
 -- "Full simulation writes each signal's code into the first I + G bytes"
 unfoldable pub codes : (netlist list : List ℕ) → (t : ℕ) → List ℕ

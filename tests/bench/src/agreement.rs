@@ -77,6 +77,10 @@ fn answer<const N: usize>(found: Result<[usize; N], Refused>) -> Answer {
     (number, five)
 }
 
+fn list_values(list: plain::List) -> [usize; 3] {
+    [list.changes, list.vector, list.row]
+}
+
 /// CORE's values: a clean output has a class.
 fn core_values((class, gates, pins): plain::CoreAnswer) -> [usize; 4] {
     let code = usize::from(class.unwrap_or(0));
@@ -92,7 +96,7 @@ impl Version for Plain {
     }
 
     fn list(&mut self, n: &[u8], l: &[u8]) -> Answer {
-        answer(plain::check_list(n, l).map(|(card, changes)| [changes, card.inputs.div_ceil(8)]))
+        answer(plain::check_list(n, l).map(|(_, list)| list_values(list)))
     }
 
     fn full(&mut self, n: &[u8], l: &[u8], change: usize, buffer: &mut [u8]) -> Answer {
@@ -130,7 +134,7 @@ impl Version for Tuned {
     }
 
     fn list(&mut self, n: &[u8], l: &[u8]) -> Answer {
-        answer(tuned::check_list(n, l, &mut self.0).map(<[usize; 2]>::from))
+        answer(tuned::check_list(n, l, &mut self.0).map(list_values))
     }
 
     fn full(&mut self, n: &[u8], l: &[u8], change: usize, buffer: &mut [u8]) -> Answer {
@@ -226,7 +230,7 @@ fn random_cards() -> Vec<Made> {
         let (mut netlist, mut list) = random::files(&mut random, &card, COUNT);
         match random.below(6) {
             0 => random::damage_netlist(&mut random, &card, &mut netlist),
-            1 => random::damage_list(&mut random, card.inputs, &mut list),
+            1 => random::damage_list(&mut random, &card, &mut list),
             _ => {}
         }
         Made {
@@ -240,8 +244,9 @@ fn random_cards() -> Vec<Made> {
 
 /// Some of the cards that are timed, with the first changes of their lists.
 fn timed_cards() -> Vec<Made> {
-    let files = every_sort().flat_map(|sort| sort.files(12, COUNT));
-    files
+    let sorts = every_sort().flat_map(|sort| [sort, sort.declaring()]);
+    sorts
+        .flat_map(|sort| sort.files(12, COUNT))
         .map(|(netlist, list)| Made {
             card: netlist::decode(&netlist).expect("an accepted card"),
             netlist,

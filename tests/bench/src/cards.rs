@@ -1,5 +1,6 @@
 //! The cards that are timed, by their number of gates and their shape.
 
+use reference::changes::Version;
 use reference::netlist::{Card, Gate, KINDS};
 use reference::random::{self, Random};
 
@@ -73,16 +74,30 @@ fn card_of(
     }
 }
 
-/// Cards of one sort.
+/// Cards of one sort, with lists of one version.
 #[derive(Clone, Copy)]
 pub struct Sort {
     pub gates: usize,
     pub shape: Shape,
+    version: Version,
 }
 
 impl Sort {
+    /// With lists of version 1.
     pub const fn new(gates: usize, shape: Shape) -> Sort {
-        Sort { gates, shape }
+        Sort {
+            gates,
+            shape,
+            version: Version::One,
+        }
+    }
+
+    /// The same cards with lists that declare ends.
+    pub fn declaring(self) -> Sort {
+        Sort {
+            version: Version::Two,
+            ..self
+        }
     }
 
     pub fn name(self) -> String {
@@ -111,7 +126,7 @@ impl Sort {
         let files = |number| {
             let mut random = Random::new((100 * self.gates + number) as u64);
             let card = self.card(&mut random, number);
-            random::files(&mut random, &card, changes)
+            random::files_of(&mut random, &card, self.version, changes)
         };
         (0..cards).map(files).collect()
     }

@@ -6,7 +6,7 @@
 //! numbers of gates, shapes (`wide`, `deep`, `two-pin`), and calls as
 //! `include/lane.h` names them, without `lane_`: `2048 deep core`. A number
 //! without a shape is of wide cards; where calls are named, their rows are all
-//! that is printed.
+//! that is printed. With `declared` the lists are of version 2.
 //!
 //! The program's rows show the Rust times alone where target/bin/lane is
 //! missing. The ratio to watch is that to plain Rust: above 1 the library is
@@ -102,7 +102,11 @@ struct Asked {
     sizes: Vec<usize>,
     shapes: Vec<Shape>,
     rows: Vec<Row>,
+    declared: bool,
 }
+
+/// The word that asks for lists of version 2.
+const DECLARED: &str = "declared";
 
 impl Asked {
     /// None where a word is not understood.
@@ -114,9 +118,12 @@ impl Asked {
             sizes: words.iter().filter_map(size).collect(),
             shapes: words.iter().filter_map(shape).collect(),
             rows: words.iter().filter_map(row).collect(),
+            declared: words.iter().any(|word| word == DECLARED),
         };
-        let understood = asked.sizes.len() + asked.shapes.len() + asked.rows.len();
-        (understood == words.len()).then_some(asked)
+        let understood = |word: &String| {
+            word == DECLARED || size(word).is_some() || shape(word).is_some() || row(word).is_some()
+        };
+        words.iter().all(understood).then_some(asked)
     }
 
     /// Each size in each shape; without a size, those of [`SORTS`].
@@ -134,7 +141,11 @@ impl Asked {
     }
 
     fn print(&self) -> std::io::Result<()> {
-        let sorts = self.sorts();
+        let mut sorts = self.sorts();
+        if self.declared {
+            sorts = sorts.into_iter().map(Sort::declaring).collect();
+            println!("Lists of version 2, which declare the outputs' ends");
+        }
         let mut groups: Vec<Group> = sorts.iter().copied().map(Group::of).collect();
         if !self.rows.is_empty() {
             print_calls(&self.rows, &groups);
@@ -153,7 +164,8 @@ fn print_usage() {
     let shapes = SHAPES.map(Shape::name).join(" ");
     let calls = ROWS.map(|(call, ..)| call).join(" ");
     eprintln!("bench [WORD..], each a number of gates from 1 to 2048, one of the shapes");
-    eprintln!("{shapes}, or one of the calls {calls}");
+    eprintln!("{shapes}, one of the calls {calls},");
+    eprintln!("or {DECLARED} for lists of version 2");
 }
 
 fn main() -> ExitCode {

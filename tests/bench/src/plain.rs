@@ -1,4 +1,4 @@
-//! The same calls in plain safe Rust: loops over the bytes as document 01 has
+//! The same calls in plain safe Rust: loops over the bytes as the documents have
 //! them, a table for the join of two classes and one for the images of sets.
 //! No tricks with words or columns, no table made for speed alone.
 
@@ -110,54 +110,124 @@ fn tie(netlist: &[u8]) -> u32 {
     b
 }
 
-/// Checks a list's head and length; gives T and a vector's width.
+/// An accepted list.
+#[derive(Clone, Copy)]
+pub struct List<'a> {
+    pub bytes: &'a [u8],
+    pub changes: usize,
+    /// Bytes of a vector.
+    pub vector: usize,
+    /// Bytes of each row of declared ends: 0 in version 1, which has none.
+    pub row: usize,
+}
+
+impl List<'_> {
+    fn change_bytes(&self) -> usize {
+        2 * (self.vector + self.row)
+    }
+
+    /// Place of a change's first vector.
+    pub fn place(&self, change: usize) -> usize {
+        11 + change * self.change_bytes()
+    }
+
+    /// The clean class whose ends are bits of two rows one after the other.
+    fn class(&self, at: usize, width: usize, number: usize) -> u8 {
+        let at = at + number / 8;
+        let first = self.bytes[at] >> (number % 8) & 1;
+        let second = self.bytes[at + width] >> (number % 8) & 1;
+        match (first, second) {
+            (0, 0) => 0,
+            (0, _) => 2,
+            (_, 0) => 3,
+            _ => 1,
+        }
+    }
+
+    fn input_class(&self, change: usize, input: usize) -> u8 {
+        self.class(self.place(change), self.vector, input)
+    }
+
+    /// The wanted set of an output: the clean classes, or the declared one alone.
+    pub fn wanted(&self, change: usize, output: usize) -> u8 {
+        match self.row {
+            0 => 0x0F,
+            width => 1 << self.class(self.place(change) + 2 * self.vector, width, output),
+        }
+    }
+}
+
+/// Checks a list's head and length.
 pub fn check_head(
     list: &[u8],
     inputs: usize,
+    outputs: usize,
     tie: impl FnOnce() -> u32,
-) -> Result<(usize, usize), Refused> {
+) -> Result<List<'_>, Refused> {
     if list.len() < 11 {
         return Err((11, list.len()));
     }
     if &list[..3] != b"LCT" {
         return Err((12, 0));
     }
-    if word(list, 3) != 1 {
-        return Err((13, 3));
-    }
+    let (most, row) = match word(list, 3) {
+        1 => (1000, 0),
+        2 => (800, outputs.div_ceil(8)),
+        _ => return Err((13, 3)),
+    };
     if list[5..9] != tie().to_le_bytes() {
         return Err((14, 5));
     }
-    let changes = word(list, 9);
-    if changes > 1000 {
+    let checked = List {
+        bytes: list,
+        changes: word(list, 9),
+        vector: inputs.div_ceil(8),
+        row,
+    };
+    if checked.changes > most {
         return Err((15, 9));
     }
-    let width = inputs.div_ceil(8);
-    match list.len() == 11 + 2 * changes * width {
-        true => Ok((changes, width)),
+    match list.len() == checked.place(checked.changes) {
+        true => Ok(checked),
         false => Err((16, list.len())),
     }
 }
 
-/// Checks a netlist and its list; gives the card and T.
-pub fn check_list(netlist: &[u8], list: &[u8]) -> Result<(Card, usize), Refused> {
-    let card = check_netlist(netlist)?;
-    let (changes, width) = check_head(list, card.inputs, || tie(netlist))?;
-    if card.inputs % 8 != 0 {
-        for at in (11 + width - 1..list.len()).step_by(width) {
-            if list[at] >> (card.inputs % 8) != 0 {
-                return Err((17, at));
+/// The first byte with a spare bit.
+fn spare_place(list: &List, card: &Card) -> Option<usize> {
+    let vector = (list.vector, card.inputs % 8);
+    let row = (list.row, card.outputs % 8);
+    let rows = match list.row {
+        0 => &[vector, vector][..],
+        _ => &[vector, vector, row, row][..],
+    };
+    let mut at = 11;
+    for _ in 0..list.changes {
+        for (width, used) in rows {
+            at += width;
+            if *used != 0 && list.bytes[at - 1] >> used != 0 {
+                return Some(at - 1);
             }
         }
     }
-    Ok((card, changes))
+    None
+}
+
+/// Checks a netlist and its list.
+pub fn check_list<'a>(netlist: &[u8], list: &'a [u8]) -> Result<(Card, List<'a>), Refused> {
+    let card = check_netlist(netlist)?;
+    let list = check_head(list, card.inputs, card.outputs, || tie(netlist))?;
+    match spare_place(&list, &card) {
+        Some(place) => Err((17, place)),
+        None => Ok((card, list)),
+    }
 }
 
 /// The list's refusals, then 18.
-fn open(netlist: &[u8], list: &[u8], change: usize) -> Result<Card, Refused> {
-    let (card, changes) = check_list(netlist, list)?;
-    match change < changes {
-        true => Ok(card),
+fn open<'a>(netlist: &[u8], list: &'a [u8], change: usize) -> Result<(Card, List<'a>), Refused> {
+    let (card, list) = check_list(netlist, list)?;
+    match change < list.changes {
+        true => Ok((card, list)),
         false => Err((18, 0)),
     }
 }
@@ -182,25 +252,6 @@ pub fn fill_rows(
         sums = (sums.0 + counts.0, sums.1 + counts.1);
     }
     Ok(sums)
-}
-
-fn input_class(list: &[u8], width: usize, change: usize, input: usize) -> u8 {
-    let at = 11 + 2 * change * width + input / 8;
-    let first = list[at] >> (input % 8) & 1;
-    let second = list[at + width] >> (input % 8) & 1;
-    match (first, second) {
-        (0, 0) => 0,
-        (0, _) => 2,
-        (_, 0) => 3,
-        _ => 1,
-    }
-}
-
-fn fill_inputs(list: &[u8], card: &Card, change: usize, classes: &mut [u8]) {
-    let width = card.inputs.div_ceil(8);
-    for (input, class) in classes.iter_mut().enumerate() {
-        *class = input_class(list, width, change, input);
-    }
 }
 
 fn is_or(kind: u8) -> bool {
@@ -229,8 +280,10 @@ fn unit(kind: u8) -> u8 {
 // Full simulation.
 
 /// Full simulation of a card that was checked before.
-pub fn full_once(netlist: &[u8], list: &[u8], card: &Card, change: usize, buffer: &mut [u8]) {
-    fill_inputs(list, card, change, &mut buffer[..card.inputs]);
+pub fn full_once(netlist: &[u8], list: &List, card: &Card, change: usize, buffer: &mut [u8]) {
+    for (input, class) in buffer[..card.inputs].iter_mut().enumerate() {
+        *class = list.input_class(change, input);
+    }
     let mut at = 11;
     for gate in 0..card.gates {
         let kind = netlist[at];
@@ -245,20 +298,20 @@ pub fn full_once(netlist: &[u8], list: &[u8], card: &Card, change: usize, buffer
 }
 
 pub fn full(netlist: &[u8], list: &[u8], change: usize, buffer: &mut [u8]) -> Result<(), Refused> {
-    let card = open(netlist, list, change)?;
+    let (card, list) = open(netlist, list, change)?;
     if buffer.len() < card.inputs + card.gates {
         return Err((20, 0));
     }
-    full_once(netlist, list, &card, change, buffer);
+    full_once(netlist, &list, &card, change, buffer);
     Ok(())
 }
 
 /// Full simulation of every change, which counts nothing.
 pub fn full_all(netlist: &[u8], list: &[u8], buffer: &mut [u8]) -> Result<Sums, Refused> {
-    let (card, changes) = check_list(netlist, list)?;
+    let (card, list) = check_list(netlist, list)?;
     let width = card.inputs + card.gates;
-    fill_rows(buffer, changes, width, |change, row| {
-        full_once(netlist, list, &card, change, row);
+    fill_rows(buffer, list.changes, width, |change, row| {
+        full_once(netlist, &list, &card, change, row);
         (0, 0)
     })
 }
@@ -376,9 +429,11 @@ fn search(
     places: &[usize],
     cells: &mut [Cell],
     signal: usize,
+    wanted: u8,
 ) -> CoreAnswer {
     if let Cell::Known(class) = cells[signal] {
-        return (Some(class), 0, 0);
+        let is_wanted = wanted >> class & 1 == 1;
+        return (is_wanted.then_some(class), 0, 0);
     }
     let mut search = Search {
         netlist,
@@ -388,7 +443,7 @@ fn search(
         gates: 0,
         pins: 0,
     };
-    let class = match search.visit(signal, 0x0F, None) {
+    let class = match search.visit(signal, wanted, None) {
         End::Known(class) => Some(class),
         _ => None,
     };
@@ -407,11 +462,10 @@ pub fn places(netlist: &[u8], card: &Card) -> Vec<usize> {
 }
 
 /// Cells with the inputs known.
-fn cells(list: &[u8], card: &Card, change: usize) -> Vec<Cell> {
-    let width = card.inputs.div_ceil(8);
+fn cells(list: &List, card: &Card, change: usize) -> Vec<Cell> {
     let mut cells = vec![Cell::New; card.inputs + card.gates];
     for (input, cell) in cells[..card.inputs].iter_mut().enumerate() {
-        *cell = Cell::Known(input_class(list, width, change, input));
+        *cell = Cell::Known(list.input_class(change, input));
     }
     cells
 }
@@ -423,7 +477,7 @@ pub fn output_signal(netlist: &[u8], card: &Card, output: usize) -> usize {
 /// CORE on a card that was checked before.
 pub fn core_once(
     netlist: &[u8],
-    list: &[u8],
+    list: &List,
     card: &Card,
     places: &[usize],
     change: usize,
@@ -431,7 +485,8 @@ pub fn core_once(
 ) -> CoreAnswer {
     let mut cells = cells(list, card, change);
     let signal = output_signal(netlist, card, output);
-    search(netlist, card, places, &mut cells, signal)
+    let wanted = list.wanted(change, output);
+    search(netlist, card, places, &mut cells, signal, wanted)
 }
 
 pub fn core(
@@ -440,28 +495,30 @@ pub fn core(
     change: usize,
     output: usize,
 ) -> Result<CoreAnswer, Refused> {
-    let card = open(netlist, list, change)?;
+    let (card, list) = open(netlist, list, change)?;
     if output >= card.outputs {
         return Err((19, 0));
     }
     let places = places(netlist, &card);
-    Ok(core_once(netlist, list, &card, &places, change, output))
+    Ok(core_once(netlist, &list, &card, &places, change, output))
 }
 
-/// Writes each output's verdict, searched from a copy of the cells; the sums
-/// of gates and pins.
+/// Writes each output's verdict, searched from a copy of the cells with its
+/// wanted set; the sums of gates and pins.
 fn search_outputs(
     netlist: &[u8],
     card: &Card,
     places: &[usize],
     start: &[Cell],
+    wanted: impl Fn(usize) -> u8,
     row: &mut [u8],
 ) -> (usize, usize) {
     let mut sums = (0, 0);
     for (output, byte) in row.iter_mut().enumerate() {
         let mut cells = start.to_vec();
         let signal = output_signal(netlist, card, output);
-        let (class, gates, pins) = search(netlist, card, places, &mut cells, signal);
+        let wanted = wanted(output);
+        let (class, gates, pins) = search(netlist, card, places, &mut cells, signal, wanted);
         *byte = u8::from(class.is_none());
         sums = (sums.0 + gates, sums.1 + pins);
     }
@@ -470,11 +527,12 @@ fn search_outputs(
 
 /// CORE for every change and output: gates and pins.
 pub fn core_all(netlist: &[u8], list: &[u8], buffer: &mut [u8]) -> Result<Sums, Refused> {
-    let (card, changes) = check_list(netlist, list)?;
+    let (card, list) = check_list(netlist, list)?;
     let places = places(netlist, &card);
-    fill_rows(buffer, changes, card.outputs, |change, row| {
-        let start = cells(list, &card, change);
-        search_outputs(netlist, &card, &places, &start, row)
+    fill_rows(buffer, list.changes, card.outputs, |change, row| {
+        let start = cells(&list, &card, change);
+        let wanted = |output| list.wanted(change, output);
+        search_outputs(netlist, &card, &places, &start, wanted, row)
     })
 }
 
@@ -508,7 +566,7 @@ fn constant(netlist: &[u8], at: usize, constants: &[Option<u8>]) -> (Option<u8>,
 /// The forward method on a card that was checked before: touched, visited.
 fn forward_once(
     netlist: &[u8],
-    list: &[u8],
+    list: &List,
     card: &Card,
     places: &[usize],
     change: usize,
@@ -533,7 +591,8 @@ fn forward_once(
         }
     }
     let row = &mut buffer[..card.outputs];
-    let (visited, _) = search_outputs(netlist, card, places, &start, row);
+    let wanted = |output| list.wanted(change, output);
+    let (visited, _) = search_outputs(netlist, card, places, &start, wanted, row);
     (touched, visited)
 }
 
@@ -543,19 +602,19 @@ pub fn forward(
     change: usize,
     buffer: &mut [u8],
 ) -> Result<(usize, usize), Refused> {
-    let card = open(netlist, list, change)?;
+    let (card, list) = open(netlist, list, change)?;
     if buffer.len() < card.outputs {
         return Err((20, 0));
     }
     let places = places(netlist, &card);
-    Ok(forward_once(netlist, list, &card, &places, change, buffer))
+    Ok(forward_once(netlist, &list, &card, &places, change, buffer))
 }
 
 /// The forward method for every change: touched and visited.
 pub fn forward_all(netlist: &[u8], list: &[u8], buffer: &mut [u8]) -> Result<Sums, Refused> {
-    let (card, changes) = check_list(netlist, list)?;
+    let (card, list) = check_list(netlist, list)?;
     let places = places(netlist, &card);
-    fill_rows(buffer, changes, card.outputs, |change, row| {
-        forward_once(netlist, list, &card, &places, change, row)
+    fill_rows(buffer, list.changes, card.outputs, |change, row| {
+        forward_once(netlist, &list, &card, &places, change, row)
     })
 }

@@ -37,7 +37,8 @@ pub struct Sample {
 
 impl Sample {
     pub fn new((netlist, list): Files) -> Sample {
-        let (card, changes) = plain::check_list(&netlist, &list).expect("a card to accept");
+        let (card, checked) = plain::check_list(&netlist, &list).expect("a card to accept");
+        let changes = checked.changes;
         Sample {
             netlist,
             list,

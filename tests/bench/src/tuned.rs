@@ -1,7 +1,7 @@
 //! The same calls in safe Rust, tuned: tables, no allocation, one pass for the
 //! check that also notes where records stand.
 
-use crate::plain::{check_head, fill_rows, Sums};
+use crate::plain::{check_head, fill_rows, List, Sums};
 use crate::tables::{
     CONSTANT, COUNTS, FLAVOUR, GATE, IMAGE, JOIN, LANES, NO_WAITING, POSSIBLE, WANTED,
 };
@@ -163,22 +163,48 @@ pub fn tie(netlist: &[u8]) -> u32 {
     b
 }
 
-/// Checks a netlist and its list; gives T and V.
-pub fn check_list(
-    netlist: &[u8],
-    list: &[u8],
-    index: &mut Index,
-) -> Result<(usize, usize), Refused> {
-    check_netlist(netlist, index)?;
-    let (changes, width) = check_head(list, index.inputs, || tie(netlist))?;
-    if !index.inputs.is_multiple_of(8) {
-        let spare = 0xFFu8 << (index.inputs % 8);
-        let vectors = list[11..].chunks_exact(width);
-        if let Some(bad) = vectors.map(|v| v[width - 1]).position(|b| b & spare != 0) {
-            return Err((17, 11 + bad * width + width - 1));
-        }
+/// The first byte with a spare bit, of the rows of bits that stand in equal
+/// steps: every step's byte at this offset.
+fn first_spare(list: &[u8], step: usize, offset: usize, bits: usize) -> Option<usize> {
+    if bits.is_multiple_of(8) {
+        return None;
     }
-    Ok((changes, width))
+    let spare = 0xFFu8 << (bits % 8);
+    let mut steps = list[11..].chunks_exact(step);
+    let bad = steps.position(|bytes| bytes[offset] & spare != 0)?;
+    Some(11 + bad * step + offset)
+}
+
+/// The first byte with a spare bit. In version 1 all rows are vectors.
+fn spare_place(list: &List, index: &Index) -> Option<usize> {
+    let (vector, row) = (list.vector, list.row);
+    if row == 0 {
+        return first_spare(list.bytes, vector, vector - 1, index.inputs);
+    }
+    let ends = [
+        (vector, index.inputs),
+        (2 * vector, index.inputs),
+        (2 * vector + row, index.outputs),
+        (2 * vector + 2 * row, index.outputs),
+    ];
+    let step = 2 * (vector + row);
+    ends.into_iter()
+        .filter_map(|(end, bits)| first_spare(list.bytes, step, end - 1, bits))
+        .min()
+}
+
+/// Checks a netlist and its list.
+pub fn check_list<'a>(
+    netlist: &[u8],
+    list: &'a [u8],
+    index: &mut Index,
+) -> Result<List<'a>, Refused> {
+    check_netlist(netlist, index)?;
+    let list = check_head(list, index.inputs, index.outputs, || tie(netlist))?;
+    match spare_place(&list, index) {
+        Some(place) => Err((17, place)),
+        None => Ok(list),
+    }
 }
 
 pub fn new_index() -> Index {
@@ -193,9 +219,9 @@ pub fn new_index() -> Index {
 }
 
 /// Input classes of a change: each pair of bits is a code.
-fn fill_inputs(list: &[u8], width: usize, change: usize, classes: &mut [u8]) {
-    let at = 11 + 2 * change * width;
-    let (first, second) = (&list[at..at + width], &list[at + width..at + 2 * width]);
+fn fill_inputs(list: &List, change: usize, classes: &mut [u8]) {
+    let vectors = &list.bytes[list.place(change)..];
+    let (first, second) = vectors[..2 * list.vector].split_at(list.vector);
     for (eight, (a, b)) in classes.chunks_mut(8).zip(first.iter().zip(second)) {
         for (bit, class) in eight.iter_mut().enumerate() {
             // 00, 11, 01, 10 by first and second bit.
@@ -234,10 +260,9 @@ fn pin_set_slowly(pins: &[u8], sets: &[u8]) -> u8 {
 
 /// Full simulation of a card that was checked before, into the first I + G
 /// bytes: first with each class as the set of it alone, then back to codes.
-pub fn full_once(netlist: &[u8], list: &[u8], change: usize, buffer: &mut [u8], index: &Index) {
-    let width = index.inputs.div_ceil(8);
+pub fn full_once(netlist: &[u8], list: &List, change: usize, buffer: &mut [u8], index: &Index) {
     let sets = &mut buffer[..index.inputs + index.gates];
-    fill_inputs(list, width, change, &mut sets[..index.inputs]);
+    fill_inputs(list, change, &mut sets[..index.inputs]);
     for set in &mut sets[..index.inputs] {
         *set = 1 << (*set & 7);
     }
@@ -263,14 +288,14 @@ pub fn full(
     buffer: &mut [u8],
     index: &mut Index,
 ) -> Result<(), Refused> {
-    let (changes, _) = check_list(netlist, list, index)?;
-    if change >= changes {
+    let list = check_list(netlist, list, index)?;
+    if change >= list.changes {
         return Err((18, 0));
     }
     if buffer.len() < index.inputs + index.gates {
         return Err((20, 0));
     }
-    full_once(netlist, list, change, buffer, index);
+    full_once(netlist, &list, change, buffer, index);
     Ok(())
 }
 
@@ -281,10 +306,10 @@ pub fn full_all(
     buffer: &mut [u8],
     index: &mut Index,
 ) -> Result<Sums, Refused> {
-    let (changes, _) = check_list(netlist, list, index)?;
+    let list = check_list(netlist, list, index)?;
     let width = index.inputs + index.gates;
-    fill_rows(buffer, changes, width, |change, row| {
-        full_once(netlist, list, change, row, index);
+    fill_rows(buffer, list.changes, width, |change, row| {
+        full_once(netlist, &list, change, row, index);
         (0, 0)
     })
 }
@@ -359,12 +384,15 @@ impl Search<'_> {
     }
 
     /// Class code of a clean signal, or HAZARD.
-    fn answer(&mut self, signal: usize) -> u8 {
+    fn answer(&mut self, signal: usize, wanted: u8) -> u8 {
         let told = self.cells[signal];
-        if told & KNOWN != 0 {
-            return told & 7;
+        if told & KNOWN == 0 {
+            return self.visit(signal, wanted, NO_WAITING);
         }
-        self.visit(signal, 0x0F, NO_WAITING)
+        match wanted >> (told & 7) & 1 {
+            0 => HAZARD,
+            _ => told & 7,
+        }
     }
 }
 
@@ -376,6 +404,7 @@ fn search(
     index: &Index,
     cells: &mut [u8; MAX_SIGNALS],
     signal: usize,
+    wanted: u8,
 ) -> CoreAnswer {
     let mut search = Search {
         netlist,
@@ -385,7 +414,7 @@ fn search(
         gates: 0,
         pins: 0,
     };
-    let verdict = search.answer(signal);
+    let verdict = search.answer(signal, wanted);
     (verdict, search.gates, search.pins)
 }
 
@@ -394,9 +423,9 @@ pub fn output_signal(netlist: &[u8], index: &Index, output: usize) -> usize {
 }
 
 /// Makes the inputs known.
-fn know_inputs(list: &[u8], change: usize, index: &Index, cells: &mut [u8; MAX_SIGNALS]) {
+fn know_inputs(list: &List, change: usize, index: &Index, cells: &mut [u8; MAX_SIGNALS]) {
     let inputs = &mut cells[..index.inputs];
-    fill_inputs(list, index.inputs.div_ceil(8), change, inputs);
+    fill_inputs(list, change, inputs);
     for cell in inputs {
         *cell |= KNOWN;
     }
@@ -405,7 +434,7 @@ fn know_inputs(list: &[u8], change: usize, index: &Index, cells: &mut [u8; MAX_S
 /// CORE on a card that was checked before.
 pub fn core_once(
     netlist: &[u8],
-    list: &[u8],
+    list: &List,
     change: usize,
     output: usize,
     index: &Index,
@@ -413,7 +442,8 @@ pub fn core_once(
     let mut cells = [0; MAX_SIGNALS];
     know_inputs(list, change, index, &mut cells);
     let signal = output_signal(netlist, index, output);
-    search(netlist, index, &mut cells, signal)
+    let wanted = list.wanted(change, output);
+    search(netlist, index, &mut cells, signal, wanted)
 }
 
 pub fn core(
@@ -423,22 +453,23 @@ pub fn core(
     output: usize,
     index: &mut Index,
 ) -> Result<CoreAnswer, Refused> {
-    let (changes, _) = check_list(netlist, list, index)?;
-    if change >= changes {
+    let list = check_list(netlist, list, index)?;
+    if change >= list.changes {
         return Err((18, 0));
     }
     if output >= index.outputs {
         return Err((19, 0));
     }
-    Ok(core_once(netlist, list, change, output, index))
+    Ok(core_once(netlist, &list, change, output, index))
 }
 
-/// Writes each output's verdict, searched from a copy of the cells; the sums
-/// of gates and pins.
+/// Writes each output's verdict, searched from a copy of the cells with its
+/// wanted set; the sums of gates and pins.
 fn search_outputs(
     netlist: &[u8],
     index: &Index,
     start: &[u8; MAX_SIGNALS],
+    wanted: impl Fn(usize) -> u8,
     row: &mut [u8],
 ) -> (usize, usize) {
     let of_gates = index.inputs..index.inputs + index.gates;
@@ -446,7 +477,7 @@ fn search_outputs(
     let mut sums = (0, 0);
     for (output, byte) in row.iter_mut().enumerate() {
         let signal = output_signal(netlist, index, output);
-        let (verdict, gates, pins) = search(netlist, index, &mut cells, signal);
+        let (verdict, gates, pins) = search(netlist, index, &mut cells, signal, wanted(output));
         if gates > 0 {
             cells[of_gates.clone()].copy_from_slice(&start[of_gates.clone()]);
         }
@@ -463,11 +494,12 @@ pub fn core_all(
     buffer: &mut [u8],
     index: &mut Index,
 ) -> Result<Sums, Refused> {
-    let (changes, _) = check_list(netlist, list, index)?;
+    let list = check_list(netlist, list, index)?;
     let mut start = [0; MAX_SIGNALS];
-    fill_rows(buffer, changes, index.outputs, |change, row| {
-        know_inputs(list, change, index, &mut start);
-        search_outputs(netlist, index, &start, row)
+    fill_rows(buffer, list.changes, index.outputs, |change, row| {
+        know_inputs(&list, change, index, &mut start);
+        let wanted = |output| list.wanted(change, output);
+        search_outputs(netlist, index, &start, wanted, row)
     })
 }
 
@@ -477,14 +509,13 @@ pub fn core_all(
 /// Cells with inputs and constant gates known; the touched count.
 fn spread(
     netlist: &[u8],
-    list: &[u8],
+    list: &List,
     change: usize,
     index: &Index,
     cells: &mut [u8; MAX_SIGNALS],
 ) -> usize {
-    let width = index.inputs.div_ceil(8);
     let mut constants = [4u8; MAX_SIGNALS];
-    fill_inputs(list, width, change, &mut cells[..index.inputs]);
+    fill_inputs(list, change, &mut cells[..index.inputs]);
     for (cell, constant) in cells[..index.inputs].iter_mut().zip(&mut constants) {
         *constant = 1 << (*cell).min(2);
         *cell |= KNOWN;
@@ -512,7 +543,7 @@ fn spread(
 /// The forward method on a card that was checked before: touched, visited.
 fn forward_once(
     netlist: &[u8],
-    list: &[u8],
+    list: &List,
     change: usize,
     buffer: &mut [u8],
     index: &Index,
@@ -520,7 +551,8 @@ fn forward_once(
     let mut start = [0; MAX_SIGNALS];
     let touched = spread(netlist, list, change, index, &mut start);
     let row = &mut buffer[..index.outputs];
-    let (visited, _) = search_outputs(netlist, index, &start, row);
+    let wanted = |output| list.wanted(change, output);
+    let (visited, _) = search_outputs(netlist, index, &start, wanted, row);
     (touched, visited)
 }
 
@@ -531,14 +563,14 @@ pub fn forward(
     buffer: &mut [u8],
     index: &mut Index,
 ) -> Result<(usize, usize), Refused> {
-    let (changes, _) = check_list(netlist, list, index)?;
-    if change >= changes {
+    let list = check_list(netlist, list, index)?;
+    if change >= list.changes {
         return Err((18, 0));
     }
     if buffer.len() < index.outputs {
         return Err((20, 0));
     }
-    Ok(forward_once(netlist, list, change, buffer, index))
+    Ok(forward_once(netlist, &list, change, buffer, index))
 }
 
 /// The forward method for every change: touched and visited.
@@ -548,8 +580,8 @@ pub fn forward_all(
     buffer: &mut [u8],
     index: &mut Index,
 ) -> Result<Sums, Refused> {
-    let (changes, _) = check_list(netlist, list, index)?;
-    fill_rows(buffer, changes, index.outputs, |change, row| {
-        forward_once(netlist, list, change, row, index)
+    let list = check_list(netlist, list, index)?;
+    fill_rows(buffer, list.changes, index.outputs, |change, row| {
+        forward_once(netlist, &list, change, row, index)
     })
 }

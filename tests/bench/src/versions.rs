@@ -45,9 +45,13 @@ pub fn check_list() -> Versions {
         work(0, |c, _| {
             answered(|values| lanecard::list(c.netlist, c.list, values))
         }),
-        work(0, |c, _| plain::check_list(c.netlist, c.list)),
+        work(0, |c, _| {
+            let checked = plain::check_list(c.netlist, c.list);
+            checked.map(|(card, list)| (card, list.changes, list.vector))
+        }),
         work(0, move |c, _| {
-            tuned::check_list(c.netlist, c.list, &mut index)
+            let checked = tuned::check_list(c.netlist, c.list, &mut index);
+            checked.map(|list| (list.changes, list.vector))
         }),
     ]
 }

@@ -50,22 +50,25 @@ fn print_line(
 /// The bytes of a list's verdicts by the plain functions.
 pub fn plain_text(netlist: &[u8], list: &[u8]) -> io::Result<Text> {
     let mut text = Text::new();
-    let (card, changes) = match plain::check_list(netlist, list) {
+    let (card, list) = match plain::check_list(netlist, list) {
         Ok(checked) => checked,
         Err((number, place)) => {
             writeln!(text, "refused {number} at {place}")?;
             return Ok(text);
         }
     };
-    print_counts(&mut text, [card.inputs, card.gates, card.outputs, changes])?;
+    print_counts(
+        &mut text,
+        [card.inputs, card.gates, card.outputs, list.changes],
+    )?;
     let places = plain::places(netlist, &card);
     let mut classes = vec![0; card.inputs + card.gates];
-    for change in 0..changes {
-        plain::full_once(netlist, list, &card, change, &mut classes);
+    for change in 0..list.changes {
+        plain::full_once(netlist, &list, &card, change, &mut classes);
         for output in 0..card.outputs {
             let signal = plain::output_signal(netlist, &card, output);
             let (class, gates, pins) =
-                plain::core_once(netlist, list, &card, &places, change, output);
+                plain::core_once(netlist, &list, &card, &places, change, output);
             let pair = (change, output);
             print_line(
                 &mut text,
@@ -83,8 +86,8 @@ pub fn plain_text(netlist: &[u8], list: &[u8]) -> io::Result<Text> {
 pub fn tuned_text(netlist: &[u8], list: &[u8]) -> io::Result<Text> {
     let mut text = Text::new();
     let mut index = tuned::new_index();
-    let changes = match tuned::check_list(netlist, list, &mut index) {
-        Ok((changes, _)) => changes,
+    let list = match tuned::check_list(netlist, list, &mut index) {
+        Ok(list) => list,
         Err((number, place)) => {
             writeln!(text, "refused {number} at {place}")?;
             return Ok(text);
@@ -92,14 +95,14 @@ pub fn tuned_text(netlist: &[u8], list: &[u8]) -> io::Result<Text> {
     };
     print_counts(
         &mut text,
-        [index.inputs, index.gates, index.outputs, changes],
+        [index.inputs, index.gates, index.outputs, list.changes],
     )?;
     let mut classes = [0; 2304];
-    for change in 0..changes {
-        tuned::full_once(netlist, list, change, &mut classes, &index);
+    for change in 0..list.changes {
+        tuned::full_once(netlist, &list, change, &mut classes, &index);
         for output in 0..index.outputs {
             let signal = tuned::output_signal(netlist, &index, output);
-            let (code, gates, pins) = tuned::core_once(netlist, list, change, output, &index);
+            let (code, gates, pins) = tuned::core_once(netlist, &list, change, output, &index);
             let pair = (change, output);
             print_line(
                 &mut text,

@@ -1,5 +1,6 @@
 //! The same calls twice: [`found`] by the library, [`right`] by the reference.
 
+pub mod calls;
 pub mod found;
 pub mod right;
 pub mod stack;

@@ -1,12 +1,17 @@
 //! `differential N SEED`: compares all operations of the library with the
-//! reference on N random cards, accepted and damaged, with all buffers' bytes.
-//! Stops with status 1 at the first difference and keeps the two files of that
-//! card. It also fails if it has compared too little: a call was never accepted,
-//! a walk never gave a record or none, no cone was searched whole or in part, or,
-//! from 1,000 cards on, a refusal was never met.
+//! reference on N random cards, accepted and damaged, with lists of both
+//! versions and all buffers' bytes. Stops with status 1 at the first difference
+//! and keeps the two files of that card. It also fails if it has compared too
+//! little: a call was never accepted, a walk never gave a record or none, no cone
+//! was searched whole or in part, no output was clean as declared or hazardous
+//! for its declared ends alone, or, from 1,000 cards on, a refusal was never met
+//! or no spare bit in a row of declared ends.
 
-use differential::{found, right, same, same_filling, stack, Answer, Difference, Step};
+use differential::calls::{self, Every, One};
+use differential::{found, right, same, stack, Answer, Difference, Step};
+use reference::changes::{self, Version};
 use reference::classes::ALL;
+use reference::full;
 use reference::netlist::{self, Card, HEAD};
 use reference::random::{self, Random};
 use std::cmp::Ordering;
@@ -72,6 +77,12 @@ struct Counts {
     /// Searches that took every pin of a cone that has pins, and fewer.
     whole_cones: usize,
     part_cones: usize,
+    /// Outputs of version 2 lists: clean, and hazardous though their class is
+    /// clean.
+    clean_as_declared: usize,
+    declared_wrong: usize,
+    /// Lists whose first spare bit stands in a row of declared ends.
+    spare_in_rows: usize,
 }
 
 impl Counts {
@@ -95,6 +106,12 @@ impl Counts {
         println!("{:>11}: {records} records, {nones} times none", "step");
         let (whole, part) = (self.whole_cones, self.part_cones);
         println!("{:>11}: {whole} searched whole, {part} in part", "cones");
+        let (clean, wrong) = (self.clean_as_declared, self.declared_wrong);
+        let spare = self.spare_in_rows;
+        println!(
+            "{:>11}: {clean} clean, {wrong} hazardous for their ends alone, {spare} spare bits",
+            "declared"
+        );
     }
 
     /// Has each call been met with every answer that so many cards should bring?
@@ -119,6 +136,14 @@ impl Counts {
         match (self.whole_cones, self.part_cones) {
             (0, _) => Err("no cone was searched whole".to_string()),
             (_, 0) => Err("no cone was searched in part".to_string()),
+            _ => Ok(()),
+        }?;
+        match (self.clean_as_declared, self.declared_wrong) {
+            (0, _) => Err("no output was clean as declared".to_string()),
+            (_, 0) => Err("no output was hazardous for its declared ends alone".to_string()),
+            _ if rounds >= 1000 && self.spare_in_rows == 0 => {
+                Err("no spare bit was met in a row of declared ends".to_string())
+            }
             _ => Ok(()),
         }
     }
@@ -160,10 +185,6 @@ fn near(random: &mut Random, count: usize) -> usize {
     }
 }
 
-/// A call that fills a buffer: for one change, for every change.
-type One = fn(&[u8], &[u8], usize, &mut [u8]) -> Answer;
-type Every = fn(&[u8], &[u8], &mut [u8]) -> Answer;
-
 /// The comparisons of one card, whose list was made with so many changes.
 struct Round<'a> {
     counts: &'a mut Counts,
@@ -173,6 +194,9 @@ struct Round<'a> {
     changes: usize,
     /// The pins of each output's cone, if the netlist is accepted.
     cones: Vec<u64>,
+    /// Whether the class is clean, by change and output of an accepted version
+    /// 2 list; of others none.
+    clean_classes: Vec<Vec<bool>>,
 }
 
 impl Round<'_> {
@@ -189,8 +213,9 @@ impl Round<'_> {
             let right = right::core(n, l, change, *output);
             let place = |difference| format!("change {change} output {output}: {difference}");
             self.answers(Call::Core, found, right).map_err(place)?;
-            if let (0, [_, _, _, pins, _]) = found {
+            if let (0, [verdict, _, _, pins, _]) = found {
                 self.pins(pins, self.cones[*output]).map_err(place)?;
+                self.declared(change, *output, verdict == 0);
             }
         }
         Ok(())
@@ -207,39 +232,34 @@ impl Round<'_> {
         Ok(())
     }
 
-    /// A call for one change that needs so long a buffer.
+    /// Counts the verdict of an output whose ends are declared.
+    fn declared(&mut self, change: usize, output: usize, clean: bool) {
+        if let Some(classes) = self.clean_classes.get(change) {
+            self.counts.clean_as_declared += usize::from(clean);
+            self.counts.declared_wrong += usize::from(!clean && classes[output]);
+        }
+    }
+
+    /// A call for one change, with a buffer about as long as it needs.
     fn one(
         &mut self,
         call: Call,
-        needed: usize,
+        functions: calls::Call<One>,
         change: usize,
-        [found, right]: [One; 2],
     ) -> Result<(), Difference> {
+        let length = around(self.random, (functions.width)(self.card));
         let (n, l) = (&self.files.netlist, &self.files.list);
-        let (answer, _) = same_filling(
-            &format!("{} change {change}", call.name()),
-            around(self.random, needed),
-            |buffer| found(n, l, change, buffer),
-            |buffer| right(n, l, change, buffer),
-        )?;
+        let (answer, _) = functions.compare(n, l, change, length)?;
         self.counts.note(call, &answer);
         Ok(())
     }
 
-    /// A call for every change that needs so many bytes for each.
-    fn every(
-        &mut self,
-        call: Call,
-        width: usize,
-        [found, right]: [Every; 2],
-    ) -> Result<(), Difference> {
+    /// A call for every change, likewise.
+    fn every(&mut self, call: Call, functions: calls::Call<Every>) -> Result<(), Difference> {
+        let needed = self.changes * (functions.width)(self.card);
+        let length = around(self.random, needed);
         let (n, l) = (&self.files.netlist, &self.files.list);
-        let (answer, _) = same_filling(
-            call.name(),
-            around(self.random, self.changes * width),
-            |buffer| found(n, l, buffer),
-            |buffer| right(n, l, buffer),
-        )?;
+        let (answer, _) = functions.compare(n, l, length)?;
         self.counts.note(call, &answer);
         Ok(())
     }
@@ -286,27 +306,24 @@ impl Round<'_> {
         self.answers(Call::Netlist, found::netlist(n), right::netlist(n))?;
         let right = right::list(n, l);
         self.answers(Call::List, found::list(n, l), right)?;
+        if let (17, [place, ..]) = right {
+            let in_rows = in_declared_rows(self.card, l, place as usize);
+            self.counts.spare_in_rows += usize::from(in_rows);
+        }
         Ok(right.0 == 0)
     }
 
     /// All calls for one change, CORE for the outputs given.
     fn one_change(&mut self, change: usize, outputs: &[usize]) -> Result<(), Difference> {
-        let (signals, entries) = (self.card.signals(), self.card.outputs.len());
-        let full = [found::full, right::full as One];
-        self.one(Call::Full, signals, change, full)?;
-        let forward = [found::forward, right::forward as One];
-        self.one(Call::Forward, entries, change, forward)?;
+        self.one(Call::Full, calls::FULL, change)?;
+        self.one(Call::Forward, calls::FORWARD, change)?;
         self.core(change, outputs)
     }
 
     fn every_change(&mut self) -> Result<(), Difference> {
-        let (signals, entries) = (self.card.signals(), self.card.outputs.len());
-        let full = [found::full_all, right::full_all as Every];
-        self.every(Call::FullAll, signals, full)?;
-        let forward = [found::forward_all, right::forward_all as Every];
-        self.every(Call::ForwardAll, entries, forward)?;
-        let core = [found::core_all, right::core_all as Every];
-        self.every(Call::CoreAll, entries, core)
+        self.every(Call::FullAll, calls::FULL_ALL)?;
+        self.every(Call::ForwardAll, calls::FORWARD_ALL)?;
+        self.every(Call::CoreAll, calls::CORE_ALL)
     }
 
     fn compare(&mut self) -> Result<(), Difference> {
@@ -336,7 +353,7 @@ fn files(random: &mut Random, card: &Card, count: usize) -> Files {
         random::damage_netlist(random, card, &mut netlist);
     }
     if which == 1 || which == 2 {
-        random::damage_list(random, card.inputs, &mut list);
+        random::damage_list(random, card, &mut list);
     }
     Files {
         netlist: netlist.into_boxed_slice(),
@@ -351,6 +368,32 @@ fn cones(netlist: &[u8]) -> Vec<u64> {
     };
     let pins = |output: &usize| card.cone_pins(*output) as u64;
     card.outputs.iter().map(pins).collect()
+}
+
+/// Whether the class is clean, by change and output of an accepted version 2
+/// list.
+fn clean_classes(files: &Files) -> Vec<Vec<bool>> {
+    let Ok(job) = changes::decode(&files.netlist, &files.list) else {
+        return Vec::new();
+    };
+    let of_change = |change: &changes::Change| {
+        let classes = full::classes(&job.card, &change.inputs);
+        let is_clean = |signal: &usize| classes[*signal].is_clean();
+        job.card.outputs.iter().map(is_clean).collect()
+    };
+    match job.list.version {
+        Version::One => Vec::new(),
+        Version::Two => job.list.changes.iter().map(of_change).collect(),
+    }
+}
+
+/// Does a place of the card's list stand in a row of declared ends?
+fn in_declared_rows(card: &Card, list: &[u8], place: usize) -> bool {
+    let vectors = 2 * changes::row_bytes(card.inputs);
+    Version::of(list).is_some_and(|version| {
+        let within = (place - changes::HEAD) % version.change_bytes(card);
+        within >= vectors
+    })
 }
 
 fn random_card(random: &mut Random, round: usize) -> Card {
@@ -373,6 +416,7 @@ fn run(rounds: usize, seed: u64, counts: &mut Counts) -> Result<(), (Difference,
             card: &card,
             changes,
             cones: cones(&files.netlist),
+            clean_classes: clean_classes(&files),
         };
         if let Err(difference) = round.compare() {
             return Err((format!("card {number}: {difference}"), files));

@@ -32,7 +32,7 @@ pub fn netlist(n: &[u8]) -> Answer {
 }
 
 pub fn list(n: &[u8], l: &[u8]) -> Answer {
-    answer(changes::check(n, l).map(|a| [a.changes, a.vector, 0, 0, 0]))
+    answer(changes::check(n, l).map(|a| [a.changes, a.vector, a.declared, 0, 0]))
 }
 
 pub fn full(n: &[u8], l: &[u8], change: usize, buffer: &mut [u8]) -> Answer {
@@ -68,7 +68,7 @@ fn rows(
     fill: impl Fn(usize, &mut [u8]) -> Result<[u64; 2], Refused>,
 ) -> Result<Values, Refused> {
     let job = changes::decode(n, l)?;
-    let (count, width) = (job.changes.len(), width(&job.card));
+    let (count, width) = (job.list.changes.len(), width(&job.card));
     if buffer.len() < count * width {
         return netlist::refused(20, 0);
     }

@@ -2,55 +2,19 @@
 //! reference's single calls: the rows of every change, the sums and the whole
 //! buffer, accepted or refused.
 
-use differential::{found, right, same_filling, Answer};
+use differential::calls::{Call, Every, CORE_ALL, FORWARD_ALL, FULL_ALL};
+use differential::{found, Answer};
 use reference::cases;
-use reference::changes;
+use reference::changes::{List, Version, VERSIONS};
 use reference::classes::Class;
 use reference::netlist::{Card, MAX_GATES, MAX_INPUTS};
 use reference::random::{self, Random, Shape, SHAPES};
 
-type Filling = fn(&[u8], &[u8], &mut [u8]) -> Answer;
+const CALLS: [Call<Every>; 3] = [FULL_ALL, FORWARD_ALL, CORE_ALL];
 
-struct Call {
-    name: &'static str,
-    found: Filling,
-    right: Filling,
-    /// Bytes of a change's row.
-    width: fn(&Card) -> usize,
-}
-
-const CALLS: [Call; 3] = [
-    Call {
-        name: "full_all",
-        found: found::full_all,
-        right: right::full_all,
-        width: Card::signals,
-    },
-    Call {
-        name: "forward_all",
-        found: found::forward_all,
-        right: right::forward_all,
-        width: |card| card.outputs.len(),
-    },
-    Call {
-        name: "core_all",
-        found: found::core_all,
-        right: right::core_all,
-        width: |card| card.outputs.len(),
-    },
-];
-
-impl Call {
-    /// Compares answers and buffers; gives them back.
-    fn compare(&self, netlist: &[u8], list: &[u8], length: usize) -> (Answer, Box<[u8]>) {
-        let compared = same_filling(
-            self.name,
-            length,
-            |buffer| (self.found)(netlist, list, buffer),
-            |buffer| (self.right)(netlist, list, buffer),
-        );
-        compared.unwrap()
-    }
+/// Compares answers and buffers; gives them back.
+fn compare(call: &Call<Every>, netlist: &[u8], list: &[u8], length: usize) -> (Answer, Box<[u8]>) {
+    call.compare(netlist, list, length).unwrap()
 }
 
 /// What a run of comparisons has seen.
@@ -64,12 +28,12 @@ struct Seen {
 
 impl Seen {
     /// All three calls with buffers of the length needed and longer.
-    fn compare_card(&mut self, random: &mut Random, card: &Card, count: usize) {
-        let (netlist, list) = random::files(random, card, count);
+    fn compare_card(&mut self, random: &mut Random, card: &Card, version: Version, count: usize) {
+        let (netlist, list) = random::files_of(random, card, version, count);
         for call in &CALLS {
             let needed = count * (call.width)(card);
             let longer = random.pick(&[0, 1, 7, 100]);
-            let ((number, _), buffer) = call.compare(&netlist, &list, needed + longer);
+            let ((number, _), buffer) = compare(call, &netlist, &list, needed + longer);
             assert_eq!(number, 0);
             self.calls += 1;
             self.changes += count;
@@ -114,9 +78,9 @@ fn mux() {
 #[test]
 fn mux_falling_resting_rising() {
     let netlist = cases::mux_netlist();
-    let change = |last| vec![Class::One, Class::One, last];
-    let list = [Class::Fall, Class::One, Class::Rise].map(change);
-    let list = changes::to_bytes(&netlist, &list);
+    let inputs = |last| vec![Class::One, Class::One, last];
+    let list = [Class::Fall, Class::One, Class::Rise].map(inputs);
+    let list = List::plain(list).to_bytes(&netlist);
     let classes = [
         [1, 1, 3, 2, 3, 2, 5],
         [1, 1, 1, 0, 1, 0, 1],
@@ -124,7 +88,7 @@ fn mux_falling_resting_rising() {
     ];
     let rows = [classes.as_flattened(), &[1, 0, 1], &[1, 0, 1]];
     for (call, rows) in CALLS.iter().zip(rows) {
-        let ((number, _), buffer) = call.compare(&netlist, &list, rows.len());
+        let ((number, _), buffer) = compare(call, &netlist, &list, rows.len());
         assert_eq!((number, &*buffer), (0, rows));
     }
 }
@@ -135,15 +99,17 @@ fn no_changes() {
     let mut random = Random::new(61);
     for card in [cases::mended_mux(), random::widest_card(&mut random)] {
         let netlist = card.to_bytes();
-        let list = changes::to_bytes(&netlist, &[]);
-        for call in &CALLS {
-            let width = (call.width)(&card) as u64;
-            let none = (0, [0, width, 0, 0, 0]);
-            assert_eq!((call.found)(&netlist, &list, &mut []), none);
-            for length in [0, 1, 500] {
-                let (answer, buffer) = call.compare(&netlist, &list, length);
-                assert_eq!(answer, none);
-                assert!(buffer.iter().all(|byte| *byte >= 0xA0));
+        for list in [List::plain([]), List::declaring([])] {
+            let list = list.to_bytes(&netlist);
+            for call in &CALLS {
+                let width = (call.width)(&card) as u64;
+                let none = (0, [0, width, 0, 0, 0]);
+                assert_eq!((call.found)(&netlist, &list, &mut []), none);
+                for length in [0, 1, 500] {
+                    let (answer, buffer) = compare(call, &netlist, &list, length);
+                    assert_eq!(answer, none);
+                    assert!(buffer.iter().all(|byte| *byte >= 0xA0));
+                }
             }
         }
     }
@@ -154,13 +120,16 @@ fn no_changes() {
 fn buffers_of_every_length() {
     let mut random = Random::new(62);
     let mut compared = 0;
-    for count in [1, 2, 5] {
+    for (count, version) in [1, 2, 5]
+        .into_iter()
+        .zip([Version::Two, Version::One, Version::Two])
+    {
         let card = random::card(&mut random, Shape::Shared, 6, 20, 7);
-        let (netlist, list) = random::files(&mut random, &card, count);
+        let (netlist, list) = random::files_of(&mut random, &card, version, count);
         for call in &CALLS {
             let needed = count * (call.width)(&card);
             for length in 0..needed + 5 {
-                let (answer, buffer) = call.compare(&netlist, &list, length);
+                let (answer, buffer) = compare(call, &netlist, &list, length);
                 if length < needed {
                     assert_eq!(answer, (20, [0; 5]));
                 } else {
@@ -180,11 +149,14 @@ fn buffers_of_every_length() {
 fn one_byte_short() {
     let mut random = Random::new(63);
     let card = random::card(&mut random, Shape::TwoLevel, 8, 12, 64);
-    let (netlist, list) = random::files(&mut random, &card, changes::MAX_CHANGES);
-    for call in &CALLS {
-        let needed = changes::MAX_CHANGES * (call.width)(&card);
-        assert_eq!(call.compare(&netlist, &list, needed - 1).0, (20, [0; 5]));
-        assert_eq!(call.compare(&netlist, &list, needed).0 .0, 0);
+    for version in VERSIONS {
+        let count = version.max_changes();
+        let (netlist, list) = random::files_of(&mut random, &card, version, count);
+        for call in &CALLS {
+            let needed = count * (call.width)(&card);
+            assert_eq!(compare(call, &netlist, &list, needed - 1).0, (20, [0; 5]));
+            assert_eq!(compare(call, &netlist, &list, needed).0 .0, 0);
+        }
     }
 }
 
@@ -206,74 +178,82 @@ fn refused_list() {
 #[test]
 fn cards_of_every_shape() {
     let mut random = Random::new(64);
-    let mut seen = Seen::default();
-    for round in 0..1500 {
-        let shape = SHAPES[round % SHAPES.len()];
-        let (inputs, gates) = (random.from_to(1, 20), random.below(60));
-        let outputs = random.from_to(1, 9);
-        let card = random::card(&mut random, shape, inputs, gates, outputs);
-        let count = random.pick(&[1, 2, 3, 8]);
-        seen.compare_card(&mut random, &card, count);
+    for version in VERSIONS {
+        let mut seen = Seen::default();
+        for round in 0..750 {
+            let shape = SHAPES[round % SHAPES.len()];
+            let (inputs, gates) = (random.from_to(1, 20), random.below(60));
+            let outputs = random.from_to(1, 9);
+            let card = random::card(&mut random, shape, inputs, gates, outputs);
+            let count = random.pick(&[1, 2, 3, 8]);
+            seen.compare_card(&mut random, &card, version, count);
+        }
+        assert!(seen.hazardous > 2000 && seen.verdicts - seen.hazardous > 2000);
+        seen.print(&format!("shapes, {version:?}"));
     }
-    assert!(seen.hazardous > 2000 && seen.verdicts - seen.hazardous > 2000);
-    seen.print("shapes");
 }
 
 #[test]
 fn large_cards() {
     let mut random = Random::new(65);
-    let mut seen = Seen::default();
-    for shape in SHAPES {
-        for (inputs, gates, outputs) in [
-            (1, 0, 64),
-            (1, MAX_GATES, 3),
-            (MAX_INPUTS, 0, 64),
-            (MAX_INPUTS, MAX_GATES, 5),
-        ] {
-            let card = random::card(&mut random, shape, inputs, gates, outputs);
-            seen.compare_card(&mut random, &card, 3);
+    for version in VERSIONS {
+        let mut seen = Seen::default();
+        for shape in SHAPES {
+            for (inputs, gates, outputs) in [
+                (1, 0, 64),
+                (1, MAX_GATES, 3),
+                (MAX_INPUTS, 0, 64),
+                (MAX_INPUTS, MAX_GATES, 5),
+            ] {
+                let card = random::card(&mut random, shape, inputs, gates, outputs);
+                seen.compare_card(&mut random, &card, version, 2);
+            }
         }
+        for _ in 0..30 {
+            let card = random::any_card(&mut random);
+            seen.compare_card(&mut random, &card, version, 2);
+        }
+        let widest = random::widest_card(&mut random);
+        seen.compare_card(&mut random, &widest, version, 2);
+        seen.print(&format!("large cards, {version:?}"));
     }
-    for _ in 0..60 {
-        let card = random::any_card(&mut random);
-        seen.compare_card(&mut random, &card, 2);
-    }
-    let widest = random::widest_card(&mut random);
-    seen.compare_card(&mut random, &widest, 2);
-    seen.print("large cards");
 }
 
-/// 1,000 changes.
+/// 1,000 changes, and 800 that declare.
 #[test]
 fn longest_lists() {
     let mut random = Random::new(66);
-    let mut seen = Seen::default();
-    for shape in SHAPES {
-        let card = random::card(&mut random, shape, 33, 20, 2);
-        seen.compare_card(&mut random, &card, changes::MAX_CHANGES);
+    for version in VERSIONS {
+        let mut seen = Seen::default();
+        for shape in SHAPES {
+            let card = random::card(&mut random, shape, 33, 20, 2);
+            seen.compare_card(&mut random, &card, version, version.max_changes());
+        }
+        assert!(seen.hazardous > 200 && seen.verdicts - seen.hazardous > 200);
+        seen.print(&format!("longest lists, {version:?}"));
     }
-    assert!(seen.hazardous > 200 && seen.verdicts - seen.hazardous > 200);
-    seen.print("longest lists");
 }
 
 #[test]
 fn damaged_files() {
     let mut random = Random::new(67);
-    let mut met = [[0; 21]; CALLS.len()];
-    for _ in 0..3000 {
-        let card = random::small_card(&mut random);
-        let (netlist, list) = random::damaged_files(&mut random, &card, 2);
-        for (call, met) in CALLS.iter().zip(&mut met) {
-            let needed = 2 * (call.width)(&card);
-            let length = random.pick(&[0, needed - 1, needed, 200]);
-            let ((number, _), _) = call.compare(&netlist, &list, length);
-            met[number as usize] += 1;
+    for version in VERSIONS {
+        let mut met = [[0; 21]; CALLS.len()];
+        for _ in 0..2000 {
+            let card = random::small_card(&mut random);
+            let (netlist, list) = random::damaged_files(&mut random, &card, version, 2);
+            for (call, met) in CALLS.iter().zip(&mut met) {
+                let needed = 2 * (call.width)(&card);
+                let length = random.pick(&[0, needed - 1, needed, 200]);
+                let ((number, _), _) = compare(call, &netlist, &list, length);
+                met[number as usize] += 1;
+            }
         }
-    }
-    for (call, met) in CALLS.iter().zip(&met) {
-        for number in (0..=17).chain([20]) {
-            assert!(met[number] > 0, "{}: {number} not met", call.name);
+        for (call, met) in CALLS.iter().zip(&met) {
+            for number in (0..=17).chain([20]) {
+                assert!(met[number] > 0, "{}: {number} not met", call.name);
+            }
+            println!("{} damaged, {version:?}: by number {met:?}", call.name);
         }
-        println!("{} damaged: 3000 calls, by number {met:?}", call.name);
     }
 }

@@ -3,11 +3,12 @@
 
 use differential::{found, right};
 use reference::cases;
+use reference::changes::{self, List, VERSIONS};
 use reference::classes::Class;
 use reference::core::{self, Answer, Statistics, Verdict};
+use reference::full;
 use reference::netlist::{Card, Gate, Kind, KINDS, MAX_GATES};
 use reference::random::{self, Random, Shape, LIMITS, SHAPES};
-use reference::{changes, full};
 
 mod refusals;
 
@@ -23,6 +24,9 @@ struct Seen {
     with_carried_on: usize,
     /// Searches that took every pin of a cone that has pins.
     whole_cones: usize,
+    /// Searches with declared ends, and those of them that were clean.
+    declaring: usize,
+    as_declared: usize,
 }
 
 impl Seen {
@@ -36,44 +40,62 @@ impl Seen {
         self.with_carried_on += usize::from(statistics.carried_on > 0);
     }
 
-    /// Prints what was seen: clean and hazardous outputs, or it is too little.
+    /// Prints what was seen: clean and hazardous outputs, with and without
+    /// declared ends, or it is too little.
     fn print(&self, name: &str) {
         assert!(
             self.hazardous > 0 && self.compared > self.hazardous,
             "{name}"
         );
+        assert!(
+            self.as_declared > 0 && self.compared > self.declaring,
+            "{name}"
+        );
         println!(
             "core {name}: {} cards, {} searches compared, {} hazardous, \
              {} with a visit that ended unfinished, {} with one carried on, \
-             {} of a whole cone",
+             {} of a whole cone, {} with declared ends, {} clean as declared",
             self.cards,
             self.compared,
             self.hazardous,
             self.with_unfinished,
             self.with_carried_on,
-            self.whole_cones
+            self.whole_cones,
+            self.declaring,
+            self.as_declared
         );
     }
 }
 
-/// All changes and all outputs of a card.
-fn compare_card(seen: &mut Seen, random: &mut Random, card: &Card, count: usize) {
-    let (netlist, list) = random::files(random, card, count);
-    let inputs = |change| changes::input_classes(&list, card.inputs, change);
-    for change in 0..count {
-        let right = core::all_outputs(card, &inputs(change));
+/// All changes and all outputs of a list.
+fn compare_list(seen: &mut Seen, card: &Card, list: &List) {
+    let netlist = card.to_bytes();
+    let bytes = list.to_bytes(&netlist);
+    for (number, change) in list.changes.iter().enumerate() {
+        let right = core::all_outputs(card, change);
         for (output, (answer, statistics)) in right.iter().enumerate() {
-            let found = found::core(&netlist, &list, change, output);
+            let found = found::core(&netlist, &bytes, number, output);
             assert_eq!(
                 found,
                 (0, right::core_values(*answer)),
-                "change {change} {:?} output {output} of {card:?}",
-                inputs(change)
+                "{change:?} output {output} of {card:?}"
             );
             seen.note(answer, statistics, card.cone_pins(card.outputs[output]));
+            let declaring = change.declared.is_some();
+            let clean = answer.verdict != Verdict::Hazardous;
+            seen.declaring += usize::from(declaring);
+            seen.as_declared += usize::from(declaring && clean);
         }
     }
     seen.cards += 1;
+}
+
+/// Random changes of a list of either version.
+fn compare_card(seen: &mut Seen, random: &mut Random, card: &Card, count: usize) {
+    let version = random.pick(&VERSIONS);
+    let changes = (0..count).map(|_| random::change(random, card, version));
+    let changes = changes.collect();
+    compare_list(seen, card, &List { version, changes });
 }
 
 #[test]
@@ -194,12 +216,18 @@ fn chains_to_their_ends() {
     for card in chains() {
         let netlist = card.to_bytes();
         for (side, end) in [(0, 2), (1, 2), (0, 3), (1, 3), (2, 2), (2, 3)] {
-            let change = [side, end].map(Class::of_code).to_vec();
-            let list = changes::to_bytes(&netlist, &[change]);
-            let right = right::core(&netlist, &list, 0, 0);
-            assert_eq!(found::core(&netlist, &list, 0, 0), right);
-            compared += 1;
-            deepest = deepest.max(right.1[2]);
+            let inputs = [side, end].map(Class::of_code).to_vec();
+            let declared = full::own_ends(&card, &inputs);
+            for list in [
+                List::plain([inputs.clone()]),
+                List::declaring([(inputs, declared)]),
+            ] {
+                let list = list.to_bytes(&netlist);
+                let right = right::core(&netlist, &list, 0, 0);
+                assert_eq!(found::core(&netlist, &list, 0, 0), right);
+                compared += 1;
+                deepest = deepest.max(right.1[2]);
+            }
         }
     }
     assert_eq!(deepest, MAX_GATES as u64);
@@ -215,28 +243,14 @@ fn all_changes_of_small_cards() {
         let shape = SHAPES[round % SHAPES.len()];
         let (inputs, gates) = (random.from_to(1, 4), random.from_to(1, 14));
         let card = random::card(&mut random, shape, inputs, gates, 3);
-        let all: Vec<changes::Change> = (0..1usize << (2 * inputs))
-            .map(|number| {
-                (0..inputs)
-                    .map(|input| Class::of_code((number >> (2 * input) & 3) as u8))
-                    .collect()
-            })
-            .collect();
-        let netlist = card.to_bytes();
-        let list = changes::to_bytes(&netlist, &all);
-        for (number, change) in all.iter().enumerate() {
-            let right = core::all_outputs(&card, change);
-            for (output, (answer, statistics)) in right.iter().enumerate() {
-                let found = found::core(&netlist, &list, number, output);
-                assert_eq!(
-                    found,
-                    (0, right::core_values(*answer)),
-                    "{change:?} {output} {card:?}"
-                );
-                seen.note(answer, statistics, card.cone_pins(card.outputs[output]));
-            }
-        }
-        seen.cards += 1;
+        let version = random.pick(&VERSIONS);
+        let changes = (0..1usize << (2 * inputs)).map(|number| {
+            let class = |input| Class::of_code((number >> (2 * input) & 3) as u8);
+            let inputs = (0..inputs).map(class).collect();
+            random::change_of(&mut random, &card, version, inputs)
+        });
+        let changes = changes.collect();
+        compare_list(&mut seen, &card, &List { version, changes });
     }
     assert!(seen.with_carried_on > 500);
     seen.print("all changes");
@@ -277,7 +291,7 @@ fn damaged_files() {
     });
 }
 
-/// The verdict is full simulation's class, through the library alone.
+/// The verdict is full simulation's, and a clean output has its class.
 #[test]
 fn verdict_is_the_class() {
     let mut random = Random::new(49);
@@ -285,17 +299,14 @@ fn verdict_is_the_class() {
     for _ in 0..500 {
         let card = random::small_card(&mut random);
         let (netlist, list) = random::files(&mut random, &card, 2);
-        for change in 0..2 {
-            let inputs = changes::input_classes(&list, card.inputs, change);
-            let classes = full::classes(&card, &inputs);
-            for (output, signal) in card.outputs.iter().enumerate() {
-                let class = classes[*signal];
-                let (number, values) = found::core(&netlist, &list, change, output);
-                let wanted = match class.is_clean() {
-                    true => (0, [0, u64::from(class.code())]),
-                    false => (0, [1, 0]),
-                };
-                assert_eq!((number, [values[0], values[1]]), wanted);
+        for number in 0..2 {
+            let change = changes::change_at(&list, &card, number);
+            let classes = full::classes(&card, &change.inputs);
+            for (output, clean) in full::calls_clean(&card, &change).into_iter().enumerate() {
+                let code = u64::from(classes[card.outputs[output]].code());
+                let (refusal, values) = found::core(&netlist, &list, number, output);
+                let wanted = if clean { [0, code] } else { [1, 0] };
+                assert_eq!((refusal, [values[0], values[1]]), (0, wanted));
                 compared += 1;
             }
         }

@@ -1,9 +1,10 @@
 //! `lane_forward` against the reference: the bytes of the whole buffer, the
 //! touched count and the sum of gates visited.
 
-use differential::{found, right, same_filling, Answer};
+use differential::calls::FORWARD;
+use differential::{found, Answer};
 use reference::cases;
-use reference::changes;
+use reference::changes::{List, Version, VERSIONS};
 use reference::classes::Class;
 use reference::netlist::{Card, Gate, Kind, MAX_GATES};
 use reference::random::{self, Random, Shape, LIMITS, SHAPES};
@@ -45,18 +46,12 @@ impl Seen {
 
 /// Compares answers and buffers; gives them back.
 fn compare(netlist: &[u8], list: &[u8], change: usize, length: usize) -> (Answer, Box<[u8]>) {
-    let compared = same_filling(
-        &format!("forward change {change}"),
-        length,
-        |buffer| found::forward(netlist, list, change, buffer),
-        |buffer| right::forward(netlist, list, change, buffer),
-    );
-    compared.unwrap()
+    FORWARD.compare(netlist, list, change, length).unwrap()
 }
 
 /// All changes, buffers equal and longer.
-fn compare_card(seen: &mut Seen, random: &mut Random, card: &Card, count: usize) {
-    let (netlist, list) = random::files(random, card, count);
+fn compare_card(seen: &mut Seen, random: &mut Random, card: &Card, version: Version, count: usize) {
+    let (netlist, list) = random::files_of(random, card, version, count);
     let outputs = card.outputs.len();
     for change in 0..count {
         let longer = random.pick(&[0, 1, 7, 100]);
@@ -76,8 +71,8 @@ fn mux_and_its_mending() {
     );
     assert_eq!(buffer, [1, 0xEE]);
     let netlist = cases::mended_mux().to_bytes();
-    let change = vec![Class::One, Class::One, Class::Fall];
-    let list = changes::to_bytes(&netlist, &[change]);
+    let inputs = vec![Class::One, Class::One, Class::Fall];
+    let list = List::plain([inputs]).to_bytes(&netlist);
     assert_eq!(
         found::forward(&netlist, &list, 0, &mut buffer),
         (0, [4, 0, 0, 0, 0])
@@ -88,28 +83,30 @@ fn mux_and_its_mending() {
 #[test]
 fn cards_of_every_shape() {
     let mut random = Random::new(51);
-    let mut seen = Seen::default();
-    for shape in SHAPES {
-        for _ in 0..600 {
-            let (inputs, gates) = (random.from_to(1, 20), random.below(80));
-            let outputs = random.from_to(1, 9);
-            let card = random::card(&mut random, shape, inputs, gates, outputs);
-            compare_card(&mut seen, &mut random, &card, 3);
+    for version in VERSIONS {
+        let mut seen = Seen::default();
+        for shape in SHAPES {
+            for _ in 0..300 {
+                let (inputs, gates) = (random.from_to(1, 20), random.below(80));
+                let outputs = random.from_to(1, 9);
+                let card = random::card(&mut random, shape, inputs, gates, outputs);
+                compare_card(&mut seen, &mut random, &card, version, 3);
+            }
+            for (inputs, gates) in LIMITS {
+                let card = random::card(&mut random, shape, inputs, gates, 64);
+                compare_card(&mut seen, &mut random, &card, version, 2);
+            }
         }
-        for (inputs, gates) in LIMITS {
-            let card = random::card(&mut random, shape, inputs, gates, 64);
-            compare_card(&mut seen, &mut random, &card, 2);
+        for _ in 0..50 {
+            let card = random::any_card(&mut random);
+            compare_card(&mut seen, &mut random, &card, version, 2);
         }
+        let widest = random::widest_card(&mut random);
+        compare_card(&mut seen, &mut random, &widest, version, 2);
+        assert!(seen.hazardous > 2000 && seen.outputs - seen.hazardous > 2000);
+        assert!(seen.untouched > 200 && seen.without_search > 200);
+        seen.print(&format!("shapes, {version:?}"));
     }
-    for _ in 0..100 {
-        let card = random::any_card(&mut random);
-        compare_card(&mut seen, &mut random, &card, 2);
-    }
-    let widest = random::widest_card(&mut random);
-    compare_card(&mut seen, &mut random, &widest, 4);
-    assert!(seen.hazardous > 2000 && seen.outputs - seen.hazardous > 2000);
-    assert!(seen.untouched > 200 && seen.without_search > 200);
-    seen.print("shapes");
 }
 
 /// Constants that travel far: each gate of a chain follows from the one before
@@ -131,7 +128,9 @@ fn long_chains() {
             gates,
             outputs: vec![MAX_GATES + 1, MAX_GATES + 1, 5, 0],
         };
-        compare_card(&mut seen, &mut random, &card, 40);
+        for version in VERSIONS {
+            compare_card(&mut seen, &mut random, &card, version, 20);
+        }
     }
     seen.print("long chains");
 }

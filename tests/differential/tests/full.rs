@@ -1,8 +1,10 @@
 //! `lane_full` against the reference: the bytes of the whole buffer, accepted
 //! or refused.
 
-use differential::{found, right, same_filling};
+use differential::calls::FULL;
+use differential::found;
 use reference::cases;
+use reference::changes::{List, Version, VERSIONS};
 use reference::netlist::Card;
 use reference::random::{self, Random, Shape, LIMITS, SHAPES};
 
@@ -10,19 +12,13 @@ mod refusals;
 
 /// Compares answers and buffers; gives back the refusal number.
 fn compare(netlist: &[u8], list: &[u8], change: usize, length: usize) -> u32 {
-    let compared = same_filling(
-        &format!("full change {change}"),
-        length,
-        |buffer| found::full(netlist, list, change, buffer),
-        |buffer| right::full(netlist, list, change, buffer),
-    );
-    let ((number, _), _) = compared.unwrap();
+    let ((number, _), _) = FULL.compare(netlist, list, change, length).unwrap();
     number
 }
 
 /// All changes, buffers equal and longer.
-fn compare_card(random: &mut Random, card: &Card, count: usize) -> usize {
-    let (netlist, list) = random::files(random, card, count);
+fn compare_card(random: &mut Random, card: &Card, version: Version, count: usize) -> usize {
+    let (netlist, list) = random::files_of(random, card, version, count);
     let signals = card.signals();
     for change in 0..count {
         let longer = random.pick(&[0, 1, 7, 100]);
@@ -44,33 +40,62 @@ fn cards_of_every_shape() {
     let mut random = Random::new(31);
     let mut compared = 0;
     for shape in SHAPES {
-        for _ in 0..150 {
+        for round in 0..150 {
             let (inputs, gates) = (random.from_to(1, 40), random.below(120));
             let card = random::card(&mut random, shape, inputs, gates, 3);
-            compared += compare_card(&mut random, &card, 6);
+            compared += compare_card(&mut random, &card, VERSIONS[round % 2], 6);
         }
         for (inputs, gates) in LIMITS {
             let card = random::card(&mut random, shape, inputs, gates, 64);
-            compared += compare_card(&mut random, &card, 4);
+            for version in VERSIONS {
+                compared += compare_card(&mut random, &card, version, 2);
+            }
         }
     }
-    for _ in 0..200 {
+    for round in 0..200 {
         let card = random::any_card(&mut random);
         let count = random.pick(&[1, 3, 20]);
-        compared += compare_card(&mut random, &card, count);
+        compared += compare_card(&mut random, &card, VERSIONS[round % 2], count);
     }
     let widest = random::widest_card(&mut random);
-    compared += compare_card(&mut random, &widest, 30);
+    for version in VERSIONS {
+        compared += compare_card(&mut random, &widest, version, 15);
+    }
     println!("full shapes: {compared} simulations compared");
 }
 
-/// A whole list of 1,000 changes.
+/// Whole lists of 1,000 and of 800 changes.
 #[test]
-fn longest_list() {
+fn longest_lists() {
     let mut random = Random::new(32);
     let card = random::card(&mut random, Shape::Mixed, 33, 50, 2);
-    let compared = compare_card(&mut random, &card, 1000);
-    println!("full longest list: {compared} simulations compared");
+    for version in VERSIONS {
+        let compared = compare_card(&mut random, &card, version, version.max_changes());
+        println!("full longest list: {compared} simulations compared");
+    }
+}
+
+/// What a list declares moves no byte.
+#[test]
+fn declared_ends_move_no_byte() {
+    let mut random = Random::new(36);
+    for _ in 0..300 {
+        let card = random::small_card(&mut random);
+        let inputs = random::inputs(&mut random, card.inputs);
+        let declared = random::declared(&mut random, &card, &inputs);
+        let netlist = card.to_bytes();
+        let lists = [
+            List::plain([inputs.clone()]),
+            List::declaring([(inputs, declared)]),
+        ];
+        let [plain, declaring] = lists.map(|list| {
+            let mut buffer = vec![0xEE; card.signals()];
+            let answer = found::full(&netlist, &list.to_bytes(&netlist), 0, &mut buffer);
+            assert_eq!(answer, (0, [0; 5]));
+            buffer
+        });
+        assert_eq!(plain, declaring);
+    }
 }
 
 #[test]

@@ -2,8 +2,9 @@
 //! caller must have: a call that needs more ends the test.
 
 use differential::found;
-use reference::changes;
+use reference::changes::List;
 use reference::classes::{Class, ALL};
+use reference::full;
 use reference::netlist::{Card, Gate, Kind, HEAD, KINDS, MAX_GATES, MAX_OUTPUTS};
 
 const GATES: u64 = MAX_GATES as u64;
@@ -28,17 +29,29 @@ fn assert_clean(codes: &[u8]) {
     assert!(codes.iter().all(|code| [2, 3].contains(code)));
 }
 
-fn call_each(kind: Kind) {
+/// Both versions of a list with two changes; what is declared is right, so that
+/// it prunes nothing.
+fn lists(card: &Card) -> [List; 2] {
+    let inputs = [Class::Rise, Class::Fall].map(|class| vec![class]);
+    let declare = |inputs: Vec<Class>| (inputs.clone(), full::own_ends(card, &inputs));
+    [
+        List::plain(inputs.clone()),
+        List::declaring(inputs.map(declare)),
+    ]
+}
+
+/// Calls each function; a row of declared ends has so many bytes.
+fn call_each(kind: Kind, card: &Card, list: &List, declared: u64) {
     let pins_each = *kind.pin_limits().end();
-    let netlist = chain(kind, pins_each).to_bytes();
-    let list = changes::to_bytes(&netlist, &[vec![Class::Rise], vec![Class::Fall]]);
+    let netlist = card.to_bytes();
+    let list = list.to_bytes(&netlist);
     let (pins, searches) = (GATES * pins_each as u64, 2 * OUTPUTS);
     let (mut classes, mut verdicts) = ([0xEE; 2 * MAX_GATES + 2], [0xEE; 2 * MAX_OUTPUTS]);
 
     let entries_at = HEAD as u64 + 2 * GATES + 2 * pins;
     let counts = [1, GATES, OUTPUTS, pins, entries_at];
     assert_eq!(found::netlist(&netlist), (0, counts));
-    assert_eq!(found::list(&netlist, &list), (0, [2, 1, 0, 0, 0]));
+    assert_eq!(found::list(&netlist, &list), (0, [2, 1, declared, 0, 0]));
 
     for change in 0..2 {
         let full = found::full(&netlist, &list, change, &mut classes);
@@ -67,7 +80,12 @@ fn call_each(kind: Kind) {
 
 #[test]
 fn deepest_cards() {
-    KINDS.into_iter().for_each(call_each);
+    for kind in KINDS {
+        let card = chain(kind, *kind.pin_limits().end());
+        let [plain, declaring] = lists(&card);
+        call_each(kind, &card, &plain, 0);
+        call_each(kind, &card, &declaring, OUTPUTS / 8);
+    }
 }
 
 #[test]

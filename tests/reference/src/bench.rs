@@ -1,6 +1,5 @@
 //! Document 01's bench as a program, and all its interleavings explored.
 
-use crate::changes::Change;
 use crate::classes::Class;
 use crate::netlist::{Card, Gate};
 use std::collections::{BTreeSet, HashSet};
@@ -24,7 +23,8 @@ pub struct State {
 /// A card with its two vectors.
 pub struct Bench<'a> {
     card: &'a Card,
-    change: &'a Change,
+    /// The inputs' classes.
+    inputs: &'a [Class],
     /// Values settled at the first vector, by signal.
     starts: Vec<bool>,
     /// Values settled at the second vector, by signal.
@@ -47,12 +47,12 @@ fn flipped(start: bool, changes: u32) -> bool {
 }
 
 impl<'a> Bench<'a> {
-    pub fn new(card: &'a Card, change: &'a Change) -> Bench<'a> {
-        let starts = settled(card, change.iter().map(|class| class.start()).collect());
-        let ends = settled(card, change.iter().map(|class| class.end()).collect());
+    pub fn new(card: &'a Card, inputs: &'a [Class]) -> Bench<'a> {
+        let starts = settled(card, inputs.iter().map(|class| class.start()).collect());
+        let ends = settled(card, inputs.iter().map(|class| class.end()).collect());
         Bench {
             card,
-            change,
+            inputs,
             starts,
             ends,
         }
@@ -87,7 +87,7 @@ impl<'a> Bench<'a> {
     pub fn allowed(&self, state: &State, event: Event) -> bool {
         match event {
             Event::Input(input) => {
-                let differs = self.change[input].start() != self.change[input].end();
+                let differs = self.inputs[input].start() != self.inputs[input].end();
                 differs && state.changes[input] == 0
             }
             Event::Pin(gate, pin) => {
@@ -154,6 +154,15 @@ impl<'a> Bench<'a> {
     /// The changes that a signal's ends need.
     pub fn need(&self, signal: usize) -> u32 {
         u32::from(self.starts[signal] != self.ends[signal])
+    }
+
+    /// Has a signal behaved as a clean one must, in a complete list's last
+    /// state? It "makes no change more than its ends need", and "starts and
+    /// ends as declared" where ends are declared.
+    pub fn is_as_asked(&self, state: &State, signal: usize, declared: Option<Class>) -> bool {
+        let (start, end) = (self.starts[signal], self.value(state, signal));
+        let as_declared = declared.is_none_or(|class| (start, end) == (class.start(), class.end()));
+        as_declared && state.changes[signal] <= self.need(signal)
     }
 
     /// Is every event allowed where it stands?
@@ -301,22 +310,24 @@ pub fn showing_order(bench: &Bench, classes: &[Class]) -> Option<Vec<Event>> {
 #[cfg(test)]
 mod tests {
     use super::*;
+    use crate::changes::Change;
+    use crate::core::{self, Verdict};
     use crate::random::{self, Random, SHAPES};
-    use crate::{cases, full, netlist};
+    use crate::{cases, forward, full, netlist};
 
-    fn small(random: &mut Random) -> (Card, Change) {
+    fn small(random: &mut Random) -> (Card, Vec<Class>) {
         let shape = random.pick(&SHAPES);
         let (inputs, gates) = (random.from_to(1, 4), random.from_to(1, 5));
-        let mut card = random::card(random, shape, inputs, gates, 1);
+        let mut card = random::card(random, shape, inputs, gates, 4);
         for gate in &mut card.gates {
             gate.pins.truncate(3);
         }
-        let mut change = random::change(random, inputs);
+        let mut classes = random::inputs(random, inputs);
         if random.one_in(2) {
             let moving = [Class::Rise, Class::Fall];
-            change = (0..inputs).map(|_| random.pick(&moving)).collect();
+            classes = (0..inputs).map(|_| random.pick(&moving)).collect();
         }
-        (card, change)
+        (card, classes)
     }
 
     /// Clean classes never exceed their need, hazardous ones can by two.
@@ -333,14 +344,13 @@ mod tests {
         }
     }
 
-    fn check_complete(bench: &Bench, explored: &Explored) -> usize {
+    /// The last states of all complete orders: everything is settled there.
+    fn complete_states<'a>(bench: &Bench, explored: &'a Explored) -> Vec<&'a State> {
         let complete = explored.states.iter().filter(|state| bench.complete(state));
-        let mut ends = 0;
-        for state in complete {
-            assert!(bench.settled_at_end(state));
-            ends += 1;
-        }
-        ends
+        let states: Vec<&State> = complete.collect();
+        assert!(!states.is_empty());
+        assert!(states.iter().all(|state| bench.settled_at_end(state)));
+        states
     }
 
     /// Inputs first, then the pins of one gate after those of the other.
@@ -354,7 +364,9 @@ mod tests {
             .all(|pair| rank(&pair[0]) <= rank(&pair[1]))
     }
 
-    fn check_showing_order(bench: &Bench, classes: &[Class]) {
+    /// The state after the one complete order that shows every hazard. It is
+    /// made from the card and the vectors alone, whatever a list declares.
+    fn shown(bench: &Bench, classes: &[Class]) -> State {
         let events = showing_order(bench, classes).expect("an order that shows all hazards");
         assert!(bench.is_order(&events) && is_gate_after_gate(&events));
         let state = bench.run(&events);
@@ -363,46 +375,120 @@ mod tests {
             let surplus = if class.is_clean() { 0 } else { 2 };
             assert!(state.changes[signal] >= bench.need(signal) + surplus);
         }
+        state
+    }
+
+    /// What the three methods call each output, which is one verdict.
+    fn called_clean(card: &Card, change: &Change) -> Vec<bool> {
+        let clean = |answer: core::Answer| answer.verdict != Verdict::Hazardous;
+        let by_full = full::calls_clean(card, change);
+        let (answers, _) = forward::verdicts(card, change);
+        assert!(answers.into_iter().map(clean).eq(by_full.clone()));
+        let by_core = core::all_outputs(card, change).into_iter();
+        assert!(by_core.map(|(answer, _)| clean(answer)).eq(by_full.clone()));
+        by_full
+    }
+
+    /// Verdicts as the bench reads them.
+    #[derive(Debug, Default)]
+    struct Read {
+        clean: usize,
+        hazardous: usize,
+        /// Hazardous for the declared ends alone.
+        by_declaration: usize,
+    }
+
+    impl Read {
+        /// An output called clean is as asked after every complete order; one
+        /// called hazardous is not, after the one order.
+        fn verdicts(&mut self, bench: &Bench, change: &Change, ends: &[&State], shown: &State) {
+            let clean = called_clean(bench.card, change);
+            for (output, signal) in bench.card.outputs.iter().enumerate() {
+                let declared = change.declared.as_ref().map(|classes| classes[output]);
+                let as_asked = |state: &State| bench.is_as_asked(state, *signal, declared);
+                if clean[output] {
+                    assert!(ends.iter().all(|state| as_asked(state)) && as_asked(shown));
+                    self.clean += 1;
+                } else {
+                    assert!(!as_asked(shown), "output {output} of {:?}", bench.card);
+                    self.hazardous += 1;
+                    let by_class = !bench.is_as_asked(shown, *signal, None);
+                    self.by_declaration += usize::from(!by_class);
+                }
+            }
+        }
+    }
+
+    /// The inputs' classes in changes of both versions; in version 2 right,
+    /// wrong and random ends are declared.
+    fn changes(random: &mut Random, card: &Card, inputs: &[Class]) -> Vec<Change> {
+        let own_ends = full::own_ends(card, inputs);
+        let declare = |differs: (bool, bool)| {
+            let class =
+                |own: &Class| Class::of_ends(own.start() != differs.0, own.end() != differs.1);
+            Change::declaring(inputs.to_vec(), own_ends.iter().map(class).collect())
+        };
+        let random = random::declared(random, card, inputs);
+        vec![
+            Change::plain(inputs.to_vec()),
+            declare((false, false)),
+            declare((true, false)),
+            declare((false, true)),
+            declare((true, true)),
+            Change::declaring(inputs.to_vec(), random),
+        ]
     }
 
     #[test]
     fn mux() {
         let card = netlist::decode(&cases::mux_netlist()).unwrap();
-        let change = vec![Class::One, Class::One, Class::Fall];
-        let bench = Bench::new(&card, &change);
+        let inputs = [Class::One, Class::One, Class::Fall];
+        let bench = Bench::new(&card, &inputs);
         let explored = explore(&bench, 100_000).unwrap();
         assert_eq!(explored.counts[6], BTreeSet::from([0, 1, 2]));
-        let classes = full::classes(&card, &change);
+        let classes = full::classes(&card, &inputs);
         check_counts(&bench, &explored, &classes);
-        check_showing_order(&bench, &classes);
+        shown(&bench, &classes);
     }
 
     #[test]
-    fn classes_hold_on_the_bench() {
+    fn classes_and_verdicts_hold_on_the_bench() {
         let mut random = Random::new(7);
         let (mut explored_cards, mut states, mut ends) = (0, 0, 0);
         let mut met = [0; 8];
+        let (mut plain, mut declaring) = (Read::default(), Read::default());
         for _ in 0..1000 {
-            let (card, change) = small(&mut random);
-            let classes = full::classes(&card, &change);
-            let bench = Bench::new(&card, &change);
-            check_showing_order(&bench, &classes);
+            let (card, inputs) = small(&mut random);
+            let classes = full::classes(&card, &inputs);
+            let bench = Bench::new(&card, &inputs);
+            let shown = shown(&bench, &classes);
             let Some(explored) = explore(&bench, 20_000) else {
                 continue;
             };
             check_counts(&bench, &explored, &classes);
-            let complete = check_complete(&bench, &explored);
-            assert!(complete > 0);
+            let complete = complete_states(&bench, &explored);
+            for change in changes(&mut random, &card, &inputs) {
+                let read = match change.declared {
+                    None => &mut plain,
+                    Some(_) => &mut declaring,
+                };
+                read.verdicts(&bench, &change, &complete, &shown);
+            }
             explored_cards += 1;
             for class in classes {
                 met[usize::from(class.code())] += 1;
             }
             states += explored.states.len();
-            ends += complete;
+            ends += complete.len();
         }
         assert!(explored_cards >= 800, "{explored_cards} cards explored");
         assert!(met.iter().all(|times| *times > 20), "{met:?}");
+        assert!(plain.clean > 500 && plain.hazardous > 500, "{plain:?}");
+        assert_eq!(plain.by_declaration, 0);
+        assert!(declaring.clean > 500 && declaring.by_declaration > 500);
+        assert!(declaring.hazardous > declaring.by_declaration + 500);
         println!("bench: {explored_cards} cards, {states} states, {ends} ends, classes {met:?}");
+        println!("bench: version 1 {plain:?}, version 2 {declaring:?}");
     }
 
     /// Lists of any events, allowed or not, stay within the explored states.
@@ -411,8 +497,8 @@ mod tests {
         let mut random = Random::new(8);
         let (mut lists, mut complete) = (0, 0);
         for _ in 0..200 {
-            let (card, change) = small(&mut random);
-            let bench = Bench::new(&card, &change);
+            let (card, inputs) = small(&mut random);
+            let bench = Bench::new(&card, &inputs);
             let Some(explored) = explore(&bench, 5_000) else {
                 continue;
             };

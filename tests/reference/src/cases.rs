@@ -20,18 +20,14 @@ pub const MUX_PRINTED: &str = "3 inputs 4 gates 1 outputs 1 changes\n0 0 S1 haza
 
 /// Mux with an added AND of signals 0 and 1 on a three-pin OR.
 pub fn mended_mux() -> Card {
-    let gate = |kind, pins: &[usize]| Gate {
-        kind,
-        pins: pins.to_vec(),
-    };
     Card {
         inputs: 3,
         gates: vec![
-            gate(Kind::Not, &[2]),
-            gate(Kind::And, &[0, 2]),
-            gate(Kind::And, &[1, 3]),
-            gate(Kind::And, &[0, 1]),
-            gate(Kind::Or, &[4, 5, 6]),
+            Gate::new(Kind::Not, &[2]),
+            Gate::new(Kind::And, &[0, 2]),
+            Gate::new(Kind::And, &[1, 3]),
+            Gate::new(Kind::And, &[0, 1]),
+            Gate::new(Kind::Or, &[4, 5, 6]),
         ],
         outputs: vec![7],
     }

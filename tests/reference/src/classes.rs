@@ -63,9 +63,9 @@ impl Class {
         matches!(self, One | Rise | Static1 | DynamicRise)
     }
 
-    /// The class of an input with these two bits.
-    pub fn of_input(first: bool, second: bool) -> Class {
-        match (first, second) {
+    /// The clean class with these ends; an input's by its two bits.
+    pub fn of_ends(start: bool, end: bool) -> Class {
+        match (start, end) {
             (false, false) => Zero,
             (true, true) => One,
             (false, true) => Rise,
@@ -315,6 +315,10 @@ mod tests {
             assert_eq!(Class::of_code(class.code()), *class);
             assert_eq!(rule_not(*class).start(), !class.start());
             assert_eq!(rule_not(*class).end(), !class.end());
+            let clean = Class::of_ends(class.start(), class.end());
+            assert_eq!(clean == *class, class.is_clean());
+            assert!(clean.is_clean());
+            assert_eq!((clean.start(), clean.end()), (class.start(), class.end()));
         }
     }
 }

@@ -1,9 +1,11 @@
-//! CORE, a direct reading of document 01's paragraph.
+//! CORE, a direct reading of document 01's paragraph; document 02's version 2
+//! lists ask it for other wanted sets.
 
 use crate::changes::Change;
 use crate::classes::{from_tables, Class, Operation, ALL};
 use crate::full;
 use crate::netlist::{refused, Card, Gate, Refused};
+use crate::sets::Set;
 use crate::stack;
 
 /// What CORE answers.
@@ -32,43 +34,7 @@ pub struct Statistics {
 }
 
 // ---------------------------------------------------------------------------
-// Sets of classes.
-
-/// A set of classes: true at the codes of its members.
-#[derive(Clone, Copy, Debug, PartialEq, Eq)]
-pub struct Set([bool; 8]);
-
-/// What the output's gate is visited with: {0, 1, R, F}.
-pub const CLEAN: Set = Set([true, true, true, true, false, false, false, false]);
-
-impl Set {
-    fn of(members: impl Iterator<Item = Class>) -> Set {
-        let mut set = Set([false; 8]);
-        for member in members {
-            set.0[usize::from(member.code())] = true;
-        }
-        set
-    }
-
-    pub fn has(self, class: Class) -> bool {
-        self.0[usize::from(class.code())]
-    }
-
-    fn members(self) -> impl Iterator<Item = Class> {
-        ALL.into_iter().filter(move |class| self.has(*class))
-    }
-
-    fn shares(self, other: Set) -> bool {
-        self.members().any(|class| other.has(class))
-    }
-
-    /// The one member of a set that has one.
-    fn only(self) -> Option<Class> {
-        let mut members = self.members();
-        let first = members.next()?;
-        members.next().is_none().then_some(first)
-    }
-}
+// Possible and wanted sets.
 
 /// "p joined with each of the eight classes if pins are left, p alone if
 /// none, each inverted for kinds 1, 5, 6."
@@ -80,7 +46,7 @@ fn possible(gate: &Gate, p: Class, pins_left: bool) -> Set {
                 .map(|class| gate.kind.finish(from_tables(operation, p, class))),
         )
     } else {
-        Set::of([gate.kind.finish(p)].into_iter())
+        Set::of([gate.kind.finish(p)])
     }
 }
 
@@ -244,11 +210,15 @@ impl<'a> Search<'a> {
         Ok(())
     }
 
-    fn answer(&mut self, signal: usize) -> Verdict {
+    /// A known class is judged without a search.
+    fn answer(&mut self, signal: usize, wanted: Set) -> Verdict {
         if let Some(class) = self.told(signal) {
-            return Verdict::Clean(class);
+            return match wanted.has(class) {
+                true => Verdict::Clean(class),
+                false => Verdict::Hazardous,
+            };
         }
-        match self.visit(signal, CLEAN, None) {
+        match self.visit(signal, wanted, None) {
             End::Hazardous => Verdict::Hazardous,
             End::Known(class) => Verdict::Clean(class),
             End::Unfinished(_) => unreachable!("no gate waits for the output's"),
@@ -269,12 +239,12 @@ fn on_deep_stack<T: Send>(sources: &[Source], work: impl FnOnce() -> T + Send) -
     }
 }
 
-/// Searches for several signals, each afresh.
-pub fn search_each(sources: &[Source], signals: &[usize]) -> Vec<(Answer, Statistics)> {
+/// Searches for several signals, each afresh and with its wanted set.
+pub fn search_each(sources: &[Source], asked: &[(usize, Set)]) -> Vec<(Answer, Statistics)> {
     on_deep_stack(sources, || {
-        let one = |signal: &usize| {
+        let one = |(signal, wanted): &(usize, Set)| {
             let mut search = Search::new(sources);
-            let verdict = search.answer(*signal);
+            let verdict = search.answer(*signal, *wanted);
             let answer = Answer {
                 verdict,
                 gates: search.gates,
@@ -282,29 +252,30 @@ pub fn search_each(sources: &[Source], signals: &[usize]) -> Vec<(Answer, Statis
             };
             (answer, search.statistics)
         };
-        signals.iter().map(one).collect()
+        asked.iter().map(one).collect()
     })
 }
 
 /// The inputs' classes, then the gates.
 pub fn sources(card: &Card, change: &Change) -> Vec<Source> {
-    let inputs = change.iter().map(|class| Source::Told(*class));
+    let inputs = change.inputs.iter().map(|class| Source::Told(*class));
     let gates = card.gates.iter().map(|gate| Source::Gate(gate.clone()));
     inputs.chain(gates).collect()
 }
 
 /// All outputs of a card for one change, each searched afresh.
 pub fn all_outputs(card: &Card, change: &Change) -> Vec<(Answer, Statistics)> {
-    search_each(&sources(card, change), &card.outputs)
+    search_each(&sources(card, change), &change.asked(card))
 }
 
 /// CORE for one output of one change.
 pub fn core(netlist: &[u8], list: &[u8], change: usize, output: usize) -> Result<Answer, Refused> {
-    let (card, inputs) = full::open(netlist, list, change)?;
+    let (card, change) = full::open(netlist, list, change)?;
     if output >= card.outputs.len() {
         return refused(19, 0);
     }
-    let (answer, _) = search_each(&sources(&card, &inputs), &[card.outputs[output]])[0];
+    let asked = change.asked(&card)[output];
+    let (answer, _) = search_each(&sources(&card, &change), &[asked])[0];
     Ok(answer)
 }
 
@@ -312,8 +283,10 @@ pub fn core(netlist: &[u8], list: &[u8], change: usize, output: usize) -> Result
 mod tests {
     use super::*;
     use crate::cases;
+    use crate::changes::{Version, VERSIONS};
     use crate::netlist::Kind;
     use crate::random::{self, Random, SHAPES};
+    use crate::sets::CLEAN;
 
     #[test]
     fn mux() {
@@ -329,6 +302,12 @@ mod tests {
         assert_eq!(core(&netlist, &list, 0, usize::MAX), refused(19, 0));
     }
 
+    /// The answer for a card's first output.
+    fn first(card: &Card, change: Change) -> Answer {
+        all_outputs(card, &change)[0].0
+    }
+
+    /// "Compared with the declared ends without a search, at 0 gates and 0 pins."
     #[test]
     fn output_on_an_input() {
         let card = Card {
@@ -336,12 +315,83 @@ mod tests {
             gates: vec![],
             outputs: vec![0],
         };
-        let answer = Answer {
-            verdict: Verdict::Clean(Class::Rise),
+        let without_search = |verdict| Answer {
+            verdict,
             gates: 0,
             pins: 0,
         };
-        assert_eq!(all_outputs(&card, &vec![Class::Rise])[0].0, answer);
+        for class in CLEAN.members() {
+            let clean = without_search(Verdict::Clean(class));
+            assert_eq!(first(&card, Change::plain(vec![class])), clean);
+            for declared in CLEAN.members() {
+                let answer = match declared == class {
+                    true => clean,
+                    false => without_search(Verdict::Hazardous),
+                };
+                let change = Change::declaring(vec![class], vec![declared]);
+                assert_eq!(first(&card, change), answer);
+            }
+        }
+    }
+
+    /// An AND of what falls and of a NOT: after the first pin it can no longer
+    /// rise or stay 1, and only a version 2 list makes that enough.
+    #[test]
+    fn smaller_wanted_set_prunes() {
+        let card = Card {
+            inputs: 2,
+            gates: vec![Gate::new(Kind::Not, &[1]), Gate::new(Kind::And, &[0, 2])],
+            outputs: vec![3],
+        };
+        let inputs = vec![Class::Fall, Class::Zero];
+        let whole = Answer {
+            verdict: Verdict::Clean(Class::Fall),
+            gates: 2,
+            pins: 3,
+        };
+        let pruned = Answer {
+            verdict: Verdict::Hazardous,
+            gates: 1,
+            pins: 1,
+        };
+        assert_eq!(first(&card, Change::plain(inputs.clone())), whole);
+        for (declared, answer) in [
+            (Class::Fall, whole),
+            (Class::Rise, pruned),
+            (Class::One, pruned),
+        ] {
+            let change = Change::declaring(inputs.clone(), vec![declared]);
+            assert_eq!(first(&card, change), answer);
+        }
+        // What can still be 0 after the first pin is known to fall after the last.
+        let wrong = Answer {
+            verdict: Verdict::Hazardous,
+            ..whole
+        };
+        let change = Change::declaring(inputs, vec![Class::Zero]);
+        assert_eq!(first(&card, change), wrong);
+    }
+
+    /// A constant gate is known to the forward method alone: CORE searches it.
+    #[test]
+    fn output_on_a_constant_gate() {
+        let card = Card {
+            inputs: 1,
+            gates: vec![Gate::new(Kind::Not, &[0])],
+            outputs: vec![1],
+        };
+        for (declared, verdict) in [
+            (Class::One, Verdict::Clean(Class::One)),
+            (Class::Rise, Verdict::Hazardous),
+        ] {
+            let change = Change::declaring(vec![Class::Zero], vec![declared]);
+            let answer = Answer {
+                verdict,
+                gates: 1,
+                pins: 1,
+            };
+            assert_eq!(first(&card, change), answer);
+        }
     }
 
     /// The verdict is full simulation's, and no pin is taken twice nor out of
@@ -354,17 +404,19 @@ mod tests {
             let shape = SHAPES[round % SHAPES.len()];
             let (inputs, gates) = (random.from_to(1, 10), random.below(60));
             let card = random::card(&mut random, shape, inputs, gates, 4);
-            let change = random::change(&mut random, inputs);
-            let classes = full::classes(&card, &change);
+            let version = VERSIONS[round / SHAPES.len() % 2];
+            let change = random::change(&mut random, &card, version);
+            let classes = full::classes(&card, &change.inputs);
+            let clean = full::calls_clean(&card, &change);
             let found = all_outputs(&card, &change);
-            for (output, (answer, statistics)) in card.outputs.iter().zip(found) {
-                let class = classes[*output];
-                let expected = match class.is_clean() {
-                    true => Verdict::Clean(class),
+            for (output, (answer, statistics)) in found.into_iter().enumerate() {
+                let signal = card.outputs[output];
+                let expected = match clean[output] {
+                    true => Verdict::Clean(classes[signal]),
                     false => Verdict::Hazardous,
                 };
                 assert_eq!(answer.verdict, expected);
-                assert!(answer.pins <= card.cone_pins(*output) as u64);
+                assert!(answer.pins <= card.cone_pins(signal) as u64);
                 assert!(answer.gates <= card.gates.len() as u64);
                 seen.unfinished += statistics.unfinished;
                 seen.carried_on += statistics.carried_on;
@@ -373,17 +425,39 @@ mod tests {
         assert!(seen.unfinished > 500 && seen.carried_on > 100, "{seen:?}");
     }
 
+    /// A search with a declared class goes the way of the one without, and
+    /// either as far or to an earlier end: as far if the output is clean.
+    #[test]
+    fn declared_ends_only_shorten() {
+        let mut random = Random::new(10);
+        let (mut as_far, mut shorter) = (0, 0);
+        for _ in 0..1500 {
+            let card = random::small_card(&mut random);
+            let declaring = random::change(&mut random, &card, Version::Two);
+            let plain = Change::plain(declaring.inputs.clone());
+            let pairs = all_outputs(&card, &declaring)
+                .into_iter()
+                .zip(all_outputs(&card, &plain));
+            for ((declared, _), (plain, _)) in pairs {
+                if declared.verdict == Verdict::Hazardous {
+                    assert!(declared.gates <= plain.gates && declared.pins <= plain.pins);
+                    shorter += usize::from(declared.pins < plain.pins);
+                } else {
+                    assert_eq!(declared, plain);
+                    as_far += 1;
+                }
+            }
+        }
+        assert!(as_far > 1000 && shorter > 200, "{as_far} {shorter}");
+    }
+
     #[test]
     fn deepest_chain() {
-        let gates = (0..2048)
-            .map(|number| Gate {
-                kind: Kind::Not,
-                pins: vec![number],
-            })
-            .collect();
         let card = Card {
             inputs: 1,
-            gates,
+            gates: (0..2048)
+                .map(|number| Gate::new(Kind::Not, &[number]))
+                .collect(),
             outputs: vec![2048],
         };
         let answer = Answer {
@@ -391,6 +465,6 @@ mod tests {
             gates: 2048,
             pins: 2048,
         };
-        assert_eq!(all_outputs(&card, &vec![Class::Rise])[0].0, answer);
+        assert_eq!(first(&card, Change::plain(vec![Class::Rise])), answer);
     }
 }

@@ -34,8 +34,8 @@ fn follows(gate: &Gate, constants: &[Option<Class>]) -> Option<Class> {
 }
 
 /// The constant signals: sweeps over all gates until one finds nothing new.
-pub fn constants(card: &Card, change: &Change) -> Vec<Option<Class>> {
-    let mut constants: Vec<Option<Class>> = change.iter().map(|class| constant(*class)).collect();
+pub fn constants(card: &Card, inputs: &[Class]) -> Vec<Option<Class>> {
+    let mut constants: Vec<Option<Class>> = inputs.iter().map(|class| constant(*class)).collect();
     constants.resize(card.signals(), None);
     loop {
         let before = constants.clone();
@@ -55,14 +55,14 @@ fn touched(card: &Card, constants: &[Option<Class>]) -> u64 {
 
 /// Constants, then a search for each output with constant gates known.
 pub fn verdicts(card: &Card, change: &Change) -> (Vec<Answer>, Counts) {
-    let constants = constants(card, change);
+    let constants = constants(card, &change.inputs);
     let mut sources = sources(card, change);
     for (source, constant) in sources.iter_mut().zip(&constants) {
         if let Some(class) = constant {
             *source = Source::Told(*class);
         }
     }
-    let answers: Vec<Answer> = search_each(&sources, &card.outputs)
+    let answers: Vec<Answer> = search_each(&sources, &change.asked(card))
         .into_iter()
         .map(|(answer, _)| answer)
         .collect();
@@ -80,11 +80,11 @@ pub fn forward(
     change: usize,
     buffer: &mut [u8],
 ) -> Result<Counts, Refused> {
-    let (card, inputs) = full::open(netlist, list, change)?;
+    let (card, change) = full::open(netlist, list, change)?;
     if buffer.len() < card.outputs.len() {
         return refused(20, 0);
     }
-    let (answers, counts) = verdicts(&card, &inputs);
+    let (answers, counts) = verdicts(&card, &change);
     for (byte, answer) in buffer.iter_mut().zip(answers) {
         *byte = u8::from(answer.verdict == Verdict::Hazardous);
     }
@@ -94,8 +94,10 @@ pub fn forward(
 #[cfg(test)]
 mod tests {
     use super::*;
+    use crate::cases;
+    use crate::changes::{List, VERSIONS};
+    use crate::netlist::Kind;
     use crate::random::{self, Random};
-    use crate::{cases, changes};
 
     #[test]
     fn mux() {
@@ -114,15 +116,56 @@ mod tests {
     #[test]
     fn mended_mux() {
         let netlist = cases::mended_mux().to_bytes();
-        let change = vec![Class::One, Class::One, Class::Fall];
-        let list = changes::to_bytes(&netlist, &[change]);
-        let mut buffer = [9; 2];
+        let inputs = vec![Class::One, Class::One, Class::Fall];
+        let declaring = |class| List::declaring([(inputs.clone(), vec![class])]);
         let counts = Counts {
             touched: 4,
             visited: 0,
         };
-        assert_eq!(forward(&netlist, &list, 0, &mut buffer), Ok(counts));
-        assert_eq!(buffer, [0, 9]);
+        for (list, byte) in [
+            (List::plain([inputs.clone()]), 0),
+            (declaring(Class::One), 0),
+            (declaring(Class::Fall), 1),
+        ] {
+            let mut buffer = [9; 2];
+            let list = list.to_bytes(&netlist);
+            assert_eq!(forward(&netlist, &list, 0, &mut buffer), Ok(counts));
+            assert_eq!(buffer, [byte, 9]);
+        }
+    }
+
+    /// An input and a constant gate are compared with the declared ends without
+    /// a search; another gate is searched, and pruned where it is declared wrong.
+    #[test]
+    fn known_classes_are_compared() {
+        let card = Card {
+            inputs: 2,
+            gates: vec![
+                Gate::new(Kind::Not, &[1]),
+                Gate::new(Kind::Buffer, &[0]),
+                Gate::new(Kind::And, &[0, 3]),
+            ],
+            outputs: vec![0, 2, 4],
+        };
+        use Class::{Fall, One, Rise, Zero};
+        for (declared, clean, visited) in [
+            ([Fall, One, Fall], [true, true, true], 2),
+            ([One, One, Fall], [false, true, true], 2),
+            ([Fall, Rise, Fall], [true, false, true], 2),
+            ([Rise, Zero, One], [false, false, false], 1),
+        ] {
+            let change = Change::declaring(vec![Fall, Zero], declared.to_vec());
+            let (answers, counts) = verdicts(&card, &change);
+            assert_eq!(answers.iter().map(is_clean).collect::<Vec<_>>(), clean);
+            assert_eq!(counts.visited, visited);
+            for answer in &answers[..2] {
+                assert_eq!((answer.gates, answer.pins), (0, 0));
+            }
+        }
+    }
+
+    fn is_clean(answer: &Answer) -> bool {
+        answer.verdict != Verdict::Hazardous
     }
 
     /// The constants are the signals of class 0 and 1, and the verdict is full
@@ -130,19 +173,16 @@ mod tests {
     #[test]
     fn agrees_with_full_simulation() {
         let mut random = Random::new(5);
-        for _ in 0..2000 {
+        for round in 0..2000 {
             let card = random::small_card(&mut random);
-            let change = random::change(&mut random, card.inputs);
-            let classes = full::classes(&card, &change);
+            let change = random::change(&mut random, &card, VERSIONS[round % 2]);
+            let classes = full::classes(&card, &change.inputs);
             let by_class: Vec<Option<Class>> =
                 classes.iter().map(|class| constant(*class)).collect();
-            assert_eq!(constants(&card, &change), by_class);
+            assert_eq!(constants(&card, &change.inputs), by_class);
             let (answers, _) = verdicts(&card, &change);
-            let clean = |answer: &Answer| answer.verdict != Verdict::Hazardous;
-            let found: Vec<bool> = answers.iter().map(clean).collect();
-            let clean = |output: &usize| classes[*output].is_clean();
-            let right: Vec<bool> = card.outputs.iter().map(clean).collect();
-            assert_eq!(found, right);
+            let found: Vec<bool> = answers.iter().map(is_clean).collect();
+            assert_eq!(found, full::calls_clean(&card, &change));
         }
     }
 }

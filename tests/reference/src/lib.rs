@@ -14,6 +14,7 @@ pub mod full;
 pub mod netlist;
 pub mod program;
 pub mod random;
+pub mod sets;
 pub mod stack;
 pub mod text;
 pub mod walk;

@@ -110,6 +110,15 @@ pub struct Gate {
     pub pins: Vec<usize>,
 }
 
+impl Gate {
+    pub fn new(kind: Kind, pins: &[usize]) -> Gate {
+        Gate {
+            kind,
+            pins: pins.to_vec(),
+        }
+    }
+}
+
 /// A netlist out of its bytes. Nothing here keeps the format's rules: cards
 /// past the limits can be built too, for the tests of refusals.
 #[derive(Clone, Debug, PartialEq, Eq)]

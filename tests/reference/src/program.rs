@@ -28,10 +28,10 @@ fn judged(netlist: &[u8], list: &[u8]) -> Result<String, Refused> {
         card.inputs,
         card.gates.len(),
         card.outputs.len(),
-        job.changes.len()
+        job.list.changes.len()
     );
-    for (number, change) in job.changes.iter().enumerate() {
-        let classes = full::classes(card, change);
+    for (number, change) in job.list.changes.iter().enumerate() {
+        let classes = full::classes(card, &change.inputs);
         let answers = core::all_outputs(card, change);
         for (position, (answer, _)) in answers.iter().enumerate() {
             let class = classes[card.outputs[position]].name();
@@ -53,6 +53,7 @@ pub fn printed(netlist: &[u8], list: &[u8]) -> Vec<u8> {
 mod tests {
     use super::*;
     use crate::cases;
+    use crate::changes::List;
     use crate::classes::Class;
     use crate::netlist::Card;
 
@@ -69,10 +70,18 @@ mod tests {
     #[test]
     fn mended_mux() {
         let netlist = cases::mended_mux().to_bytes();
-        let change = vec![Class::One, Class::One, Class::Fall];
-        let list = changes::to_bytes(&netlist, &[change]);
-        let head = "3 inputs 5 gates 1 outputs 1 changes\n0 0 1 clean";
-        assert!(text(&netlist, &list).starts_with(head));
+        let inputs = vec![Class::One, Class::One, Class::Fall];
+        let list = List::plain([inputs.clone()]).to_bytes(&netlist);
+        let head = "3 inputs 5 gates 1 outputs 1 changes\n";
+        assert_eq!(text(&netlist, &list), format!("{head}0 0 1 clean 5 10\n"));
+        // The verdict follows what is declared, the class does not.
+        let declared = [Class::One, Class::Zero].map(|class| (inputs.clone(), vec![class]));
+        let list = List::declaring(declared).to_bytes(&netlist);
+        let head = "3 inputs 5 gates 1 outputs 2 changes\n";
+        assert_eq!(
+            text(&netlist, &list),
+            format!("{head}0 0 1 clean 5 10\n1 0 1 hazard 2 3\n")
+        );
     }
 
     #[test]
@@ -84,9 +93,10 @@ mod tests {
     #[test]
     fn no_changes() {
         let netlist = cases::mux_netlist();
-        let list = changes::to_bytes(&netlist, &[]);
         let head = "3 inputs 4 gates 1 outputs 0 changes\n";
-        assert_eq!(text(&netlist, &list), head);
+        for list in [List::plain([]), List::declaring([])] {
+            assert_eq!(text(&netlist, &list.to_bytes(&netlist)), head);
+        }
     }
 
     /// Bytes past the first 65,536 are not read.

@@ -1,8 +1,10 @@
 //! Deterministic random cards, lists and damage.
 
-use crate::changes::{self, Change};
+use crate::changes::{self, Change, List, Version, VERSIONS};
 use crate::classes::Class;
-use crate::netlist::{self, Card, Gate, Kind, KINDS, MAX_GATES, MAX_INPUTS, MAX_OUTPUTS};
+use crate::full;
+use crate::netlist::{self, Card, Gate, Kind};
+use crate::netlist::{KINDS, MAX_GATES, MAX_INPUTS, MAX_OUTPUTS};
 
 /// SplitMix64: small, no state but a counter, the same on every machine.
 #[derive(Clone, Debug)]
@@ -240,8 +242,8 @@ pub fn widest_card(random: &mut Random) -> Card {
 // ---------------------------------------------------------------------------
 // Lists.
 
-/// One change; how many inputs move differs from change to change.
-pub fn change(random: &mut Random, inputs: usize) -> Change {
+/// The inputs' classes; how many inputs move differs from change to change.
+pub fn inputs(random: &mut Random, count: usize) -> Vec<Class> {
     use Class::{Fall, One, Rise, Zero};
     let choices: &[Class] = match random.below(4) {
         0 => &[Zero, One, Rise, Fall],
@@ -249,23 +251,62 @@ pub fn change(random: &mut Random, inputs: usize) -> Change {
         2 => &[Zero, One, Zero, One, Zero, One, Rise, Fall],
         _ => &[Zero, One],
     };
-    let mut change: Change = (0..inputs).map(|_| random.pick(choices)).collect();
+    let mut inputs: Vec<Class> = (0..count).map(|_| random.pick(choices)).collect();
     if random.one_in(3) {
-        let at = random.below(inputs);
-        change[at] = random.pick(&[Rise, Fall]);
+        let at = random.below(count);
+        inputs[at] = random.pick(&[Rise, Fall]);
     }
-    change
+    inputs
 }
 
-pub fn changes(random: &mut Random, inputs: usize, count: usize) -> Vec<Change> {
-    (0..count).map(|_| change(random, inputs)).collect()
+/// Declared classes: mostly with the outputs' own ends, else any; in some
+/// changes all of them right.
+pub fn declared(random: &mut Random, card: &Card, inputs: &[Class]) -> Vec<Class> {
+    let all_right = random.one_in(4);
+    let declare = |own: Class| {
+        let mut bit = |right: bool| match all_right || !random.one_in(4) {
+            true => right,
+            false => random.one_in(2),
+        };
+        Class::of_ends(bit(own.start()), bit(own.end()))
+    };
+    let own_ends = full::own_ends(card, inputs).into_iter();
+    own_ends.map(declare).collect()
 }
 
-/// A card with its list, as the bytes of both files.
-pub fn files(random: &mut Random, card: &Card, count: usize) -> (Vec<u8>, Vec<u8>) {
+/// A change of a list of this version with these classes of the inputs.
+pub fn change_of(random: &mut Random, card: &Card, version: Version, inputs: Vec<Class>) -> Change {
+    match version {
+        Version::One => Change::plain(inputs),
+        Version::Two => {
+            let declared = declared(random, card, &inputs);
+            Change::declaring(inputs, declared)
+        }
+    }
+}
+
+pub fn change(random: &mut Random, card: &Card, version: Version) -> Change {
+    let inputs = inputs(random, card.inputs);
+    change_of(random, card, version, inputs)
+}
+
+/// A card with its list of this version, as the bytes of both files.
+pub fn files_of(
+    random: &mut Random,
+    card: &Card,
+    version: Version,
+    count: usize,
+) -> (Vec<u8>, Vec<u8>) {
     let netlist = card.to_bytes();
-    let list = changes::to_bytes(&netlist, &changes(random, card.inputs, count));
+    let changes = (0..count).map(|_| change(random, card, version)).collect();
+    let list = List { version, changes }.to_bytes(&netlist);
     (netlist, list)
+}
+
+/// The same with a list of either version, at most 800 changes.
+pub fn files(random: &mut Random, card: &Card, count: usize) -> (Vec<u8>, Vec<u8>) {
+    let version = random.pick(&VERSIONS);
+    files_of(random, card, version, count)
 }
 
 // ---------------------------------------------------------------------------
@@ -389,10 +430,21 @@ pub fn damage_netlist(random: &mut Random, card: &Card, netlist: &mut Vec<u8>) {
     }
 }
 
-/// Damages a list likewise; `inputs` are the card's.
-pub fn damage_list(random: &mut Random, inputs: usize, list: &mut Vec<u8>) {
-    let width = changes::vector_bytes(inputs);
-    match random.below(8) {
+/// Sets a spare bit of one of the rows, where the list has any.
+fn set_spare_bit(random: &mut Random, version: Version, card: &Card, list: &mut [u8]) {
+    let mut spare = version.last_bytes(card, list.len());
+    spare.retain(|(_, bits)| *bits != 0);
+    if !spare.is_empty() {
+        let (place, bits) = random.pick(&spare);
+        let lowest = bits.trailing_zeros() as usize;
+        list[place] |= 1 << random.from_to(lowest, 7);
+    }
+}
+
+/// Damages a list likewise; it is an accepted one of the card.
+pub fn damage_list(random: &mut Random, card: &Card, list: &mut Vec<u8>) {
+    let version = Version::of(list).expect("an accepted list");
+    match random.below(10) {
         0 => flip_bits(random, list),
         1 => cut(random, list),
         2 => append(random, list),
@@ -409,26 +461,34 @@ pub fn damage_list(random: &mut Random, inputs: usize, list: &mut Vec<u8>) {
             list[at] = random.byte();
         }
         6 => {
-            let count = random.pick(&[0, 1, 1000, 1001, 65_535]);
+            let version = random.pick(&[0, 1, 2, 3, 256, 257, 258, 65_535]);
+            put_word(list, 3, version);
+        }
+        7 => {
+            let count = random.pick(&[0, 1, 800, 801, 1000, 1001, 65_535]);
             put_word(list, 9, count);
         }
-        _ => {
-            // A spare bit, where the card has any and the list has a change.
-            let vectors = (list.len() - changes::HEAD) / width;
-            if vectors > 0 {
-                let at = changes::HEAD + random.below(vectors) * width + width - 1;
-                list[at] |= 0x80;
-            }
+        8 => {
+            // The last row is missing, or the last two are.
+            let row = changes::row_bytes(card.outputs.len());
+            let missing = random.from_to(1, 2) * row;
+            list.truncate(list.len().saturating_sub(missing));
         }
+        _ => set_spare_bit(random, version, card, list),
     }
 }
 
 /// A card's files, one of them damaged, the list more often than the netlist.
-pub fn damaged_files(random: &mut Random, card: &Card, count: usize) -> (Vec<u8>, Vec<u8>) {
-    let (mut netlist, mut list) = files(random, card, count);
+pub fn damaged_files(
+    random: &mut Random,
+    card: &Card,
+    version: Version,
+    count: usize,
+) -> (Vec<u8>, Vec<u8>) {
+    let (mut netlist, mut list) = files_of(random, card, version, count);
     match random.below(3) {
         0 => damage_netlist(random, card, &mut netlist),
-        _ => damage_list(random, card.inputs, &mut list),
+        _ => damage_list(random, card, &mut list),
     }
     (netlist, list)
 }
@@ -440,14 +500,40 @@ mod tests {
     #[test]
     fn cards_and_lists_are_accepted() {
         let mut random = Random::new(1);
-        for _ in 0..300 {
+        for round in 0..300 {
+            let version = VERSIONS[round % 2];
             let card = any_card(&mut random);
             let count = random.below(4);
-            let (netlist, list) = files(&mut random, &card, count);
-            assert_eq!(netlist::decode(&netlist).as_ref(), Ok(&card));
-            assert!(changes::check(&netlist, &list).is_ok());
+            let (netlist, list) = files_of(&mut random, &card, version, count);
+            let job = changes::decode(&netlist, &list).unwrap();
+            assert_eq!(job.card, card);
+            assert_eq!((job.list.version, job.list.changes.len()), (version, count));
         }
         assert_eq!(widest_card(&mut random).to_bytes().len(), 37_003);
+    }
+
+    /// Declared ends are often right and often wrong, by both rows.
+    #[test]
+    fn declared_ends_vary() {
+        let mut random = Random::new(14);
+        let (mut right, mut start_wrong, mut end_wrong) = (0, 0, 0);
+        for _ in 0..300 {
+            let card = small_card(&mut random);
+            let change = change(&mut random, &card, Version::Two);
+            let own_ends = full::own_ends(&card, &change.inputs).into_iter();
+            for (own, declared) in own_ends.zip(change.declared.unwrap()) {
+                let start = own.start() == declared.start();
+                let end = own.end() == declared.end();
+                right += usize::from(start && end);
+                start_wrong += usize::from(!start && end);
+                end_wrong += usize::from(start && !end);
+            }
+        }
+        let least = 20;
+        assert!(
+            right > 10 * least && start_wrong > least && end_wrong > least,
+            "{right} {start_wrong} {end_wrong}"
+        );
     }
 
     #[test]
@@ -458,23 +544,20 @@ mod tests {
         assert_eq!(last + 2, card.to_bytes().len());
     }
 
-    /// Damage meets every refusal of the two checks.
+    /// Damage meets every refusal of the two checks, with lists of each version.
     #[test]
     fn damage_is_of_every_sort() {
         let mut random = Random::new(3);
-        let mut met = [0; 21];
-        for _ in 0..4000 {
-            let card = small_card(&mut random);
-            let (mut netlist, mut list) = files(&mut random, &card, 2);
-            if random.one_in(2) {
-                damage_netlist(&mut random, &card, &mut netlist);
-            } else {
-                damage_list(&mut random, card.inputs, &mut list);
+        for version in VERSIONS {
+            let mut met = [0; 21];
+            for _ in 0..4000 {
+                let card = small_card(&mut random);
+                let (netlist, list) = damaged_files(&mut random, &card, version, 2);
+                if let Err(refused) = changes::check(&netlist, &list) {
+                    met[refused.number as usize] += 1;
+                }
             }
-            if let Err(refused) = changes::check(&netlist, &list) {
-                met[refused.number as usize] += 1;
-            }
+            assert!(met[1..=17].iter().all(|count| *count > 5), "{met:?}");
         }
-        assert!(met[1..=17].iter().all(|count| *count > 5), "{met:?}");
     }
 }

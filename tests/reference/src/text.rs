@@ -17,6 +17,16 @@
 //! inputs from 0, then gates in their order. A list without changes is
 //! written; the statement `no list` leaves the file out, `no netlist` likewise.
 //!
+//! The statement `declared`, once and before all changes, makes the list one of
+//! version 2: each change then has the declared classes of the outputs after an
+//! arrow, and the outputs stand before the changes.
+//!
+//! ```text
+//! declared
+//! change 11F -> 1            # a class (0 1 R F) for each output: its ends
+//! change 1 1 F -> 1          # blanks as one likes, but some beside the arrow
+//! ```
+//!
 //! Contents that are no card are written as bytes, one or more lines of
 //! hexadecimal pairs, instead of the statements for that file:
 //!
@@ -36,7 +46,7 @@
 //! retie                           # puts the damaged netlist's tie into the list
 //! ```
 
-use crate::changes::{self, Change};
+use crate::changes::{self, Change, List, Version};
 use crate::classes::Class;
 use crate::netlist::{self, tie, Card, Gate, Kind, KINDS};
 use std::collections::HashMap;
@@ -168,7 +178,7 @@ enum Spoil {
 struct Reader {
     card: Card,
     names: HashMap<String, usize>,
-    changes: Vec<Change>,
+    list: List,
     raw: Files,
     left_out: Vec<File>,
     spoils: Vec<Spoil>,
@@ -183,7 +193,7 @@ impl Reader {
                 outputs: vec![],
             },
             names: HashMap::new(),
-            changes: vec![],
+            list: List::plain([]),
             raw: Files::default(),
             left_out: vec![],
             spoils: vec![],
@@ -234,33 +244,36 @@ impl Reader {
         Ok(())
     }
 
-    fn change(&mut self, words: &[&str]) -> Result<(), Mistake> {
-        let inputs = self.card.inputs;
-        let change = match words {
-            [first, second] if first.len() == inputs && second.len() == inputs && inputs > 1 => {
-                let bits = |word: &str| word.bytes().map(|byte| byte == b'1').collect::<Vec<_>>();
-                if !(*first)
-                    .chars()
-                    .chain(second.chars())
-                    .all(|c| "01".contains(c))
-                {
-                    return Err("a vector is made of 0 and 1".to_string());
-                }
-                let pairs = bits(first).into_iter().zip(bits(second));
-                pairs.map(|(a, b)| Class::of_input(a, b)).collect()
-            }
-            _ => {
-                let letters = words.iter().flat_map(|word| word.chars());
-                letters
-                    .map(input_class)
-                    .collect::<Result<Change, Mistake>>()?
-            }
-        };
-        if change.len() != inputs {
-            let found = change.len();
-            return Err(format!("{found} classes for {inputs} inputs"));
+    fn outputs(&mut self, words: &[&str]) -> Result<(), Mistake> {
+        if self.list.version == Version::Two && !self.list.changes.is_empty() {
+            return Err("outputs stand before the changes that declare them".to_string());
         }
-        self.changes.push(change);
+        let outputs = self.signals(words)?;
+        self.card.outputs.extend(outputs);
+        Ok(())
+    }
+
+    fn declared(&mut self) -> Result<(), Mistake> {
+        if self.list != List::plain([]) {
+            return Err("`declared` stands once, before all changes".to_string());
+        }
+        self.list.version = Version::Two;
+        Ok(())
+    }
+
+    fn change(&mut self, words: &[&str]) -> Result<(), Mistake> {
+        let mut parts = words.splitn(2, |word| *word == "->");
+        let inputs = input_classes(parts.next().unwrap_or_default(), self.card.inputs)?;
+        let change = match (self.list.version, parts.next()) {
+            (Version::One, None) => Change::plain(inputs),
+            (Version::Two, Some(words)) => {
+                let declared = classes_of(words, self.card.outputs.len(), "output")?;
+                Change::declaring(inputs, declared)
+            }
+            (Version::One, Some(_)) => return Err("an arrow without `declared`".to_string()),
+            (Version::Two, None) => return Err("no arrow, though ends are declared".to_string()),
+        };
+        self.list.changes.push(change);
         Ok(())
     }
 
@@ -274,11 +287,8 @@ impl Reader {
         match words {
             [] => Ok(()),
             ["inputs", words @ ..] => self.inputs(words),
-            ["outputs", words @ ..] => {
-                let outputs = self.signals(words)?;
-                self.card.outputs.extend(outputs);
-                Ok(())
-            }
+            ["outputs", words @ ..] => self.outputs(words),
+            ["declared"] => self.declared(),
             ["change", words @ ..] => self.change(words),
             ["no", word] => {
                 self.left_out.push(file_of(word)?);
@@ -315,7 +325,7 @@ impl Reader {
         };
         let list = match self.raw.list {
             Some(bytes) => bytes,
-            None => changes::to_bytes(&netlist, &self.changes),
+            None => self.list.to_bytes(&netlist),
         };
         let mut files = Files {
             netlist: Some(netlist),
@@ -334,13 +344,41 @@ impl Reader {
     }
 }
 
-fn input_class(letter: char) -> Result<Class, Mistake> {
+/// A class for each input: letters, or two vectors.
+fn input_classes(words: &[&str], inputs: usize) -> Result<Vec<Class>, Mistake> {
+    match words {
+        [first, second] if first.len() == inputs && second.len() == inputs && inputs > 1 => {
+            let pairs = first.chars().zip(second.chars());
+            pairs
+                .map(|(a, b)| Ok(Class::of_ends(bit(a)?, bit(b)?)))
+                .collect()
+        }
+        _ => classes_of(words, inputs, "input"),
+    }
+}
+
+fn bit(letter: char) -> Result<bool, Mistake> {
     match letter {
+        '0' => Ok(false),
+        '1' => Ok(true),
+        _ => Err("a vector is made of 0 and 1".to_string()),
+    }
+}
+
+/// A letter for each of so many inputs or outputs, with blanks anywhere.
+fn classes_of(words: &[&str], count: usize, of: &str) -> Result<Vec<Class>, Mistake> {
+    let class = |letter: char| match letter {
         '0' => Ok(Class::Zero),
         '1' => Ok(Class::One),
         'R' => Ok(Class::Rise),
         'F' => Ok(Class::Fall),
-        _ => Err(format!("`{letter}` is no class of an input")),
+        _ => Err(format!("`{letter}` is no class of an {of}")),
+    };
+    let letters = words.iter().flat_map(|word| word.chars());
+    let classes: Vec<Class> = letters.map(class).collect::<Result<_, Mistake>>()?;
+    match classes.len() == count {
+        true => Ok(classes),
+        false => Err(format!("{} classes for {count} {of}s", classes.len())),
     }
 }
 
@@ -399,10 +437,20 @@ fn write_card(text: &mut String, card: &Card) {
     write_signals(text, card, &card.outputs);
 }
 
-fn write_changes(text: &mut String, job: &changes::Job) {
-    for change in &job.changes {
-        let letters: String = change.iter().map(|class| class.name()).collect();
-        writeln!(text, "change {letters}").unwrap();
+fn letters(classes: &[Class]) -> String {
+    classes.iter().map(|class| class.name()).collect()
+}
+
+fn write_list(text: &mut String, list: &List) {
+    if list.version == Version::Two {
+        writeln!(text, "declared").unwrap();
+    }
+    for change in &list.changes {
+        write!(text, "change {}", letters(&change.inputs)).unwrap();
+        if let Some(declared) = &change.declared {
+            write!(text, " -> {}", letters(declared)).unwrap();
+        }
+        writeln!(text).unwrap();
     }
 }
 
@@ -424,7 +472,7 @@ pub fn unpack(files: &Files) -> String {
     match files.list.as_deref() {
         None => writeln!(text, "no list").unwrap(),
         Some(bytes) => match changes::decode(netlist.unwrap_or_default(), bytes) {
-            Ok(job) => write_changes(&mut text, &job),
+            Ok(job) => write_list(&mut text, &job.list),
             Err(refused) => {
                 let (number, place) = (refused.number, refused.place);
                 writeln!(text, "# refused {number} at {place}").unwrap();
@@ -468,6 +516,46 @@ mod tests {
         assert_eq!(pack(numbers), Ok(mux_files()));
     }
 
+    /// Mux with `declared` and a change that declares its output.
+    fn declared_mux(change: &str) -> Result<Files, Mistake> {
+        pack(&MUX.replace("change 11F", &format!("declared\n{change}")))
+    }
+
+    #[test]
+    fn declared_ends() {
+        let list = cases::hex("4C 43 54 02 00 0D 20 00 00 01 00 07 03 00 01");
+        let files = Files {
+            list: Some(list),
+            ..mux_files()
+        };
+        for change in [
+            "change 11F -> R",
+            "change 1 1 F -> R",
+            "change 111 110 ->\tR # rises",
+        ] {
+            assert_eq!(declared_mux(change).as_ref(), Ok(&files));
+        }
+        let text = unpack(&files);
+        assert!(text.ends_with("\ndeclared\nchange 11F -> R\n"), "{text}");
+        let none = Files {
+            list: Some(List::declaring([]).to_bytes(&cases::mux_netlist())),
+            ..mux_files()
+        };
+        assert_eq!(declared_mux("").as_ref(), Ok(&none));
+        assert!(unpack(&none).ends_with("\ndeclared\n"));
+    }
+
+    #[test]
+    fn blanks_between_declared_classes() {
+        let text =
+            |declared: &str| format!("inputs 2\noutputs 0 1 0\ndeclared\nchange RF -> {declared}");
+        let packed = pack(&text("RF1")).unwrap();
+        for declared in ["R F 1", "RF 1", "R   F1"] {
+            assert_eq!(pack(&text(declared)).as_ref(), Ok(&packed));
+        }
+        assert_ne!(pack(&text("RF0")).as_ref(), Ok(&packed));
+    }
+
     #[test]
     fn damage() {
         let with = |lines: &str| pack(&format!("{MUX}\n{lines}")).unwrap();
@@ -491,6 +579,46 @@ mod tests {
             ("inputs 2\nchange 1", "line 2: 1 classes for 2 inputs"),
             ("inputs 2\nchange 1x", "line 2: `x` is no class of an input"),
             (
+                "inputs 2\nchange 1R 10",
+                "line 2: a vector is made of 0 and 1",
+            ),
+            (
+                "inputs 1\noutputs 0\nchange 1 -> 1",
+                "line 3: an arrow without `declared`",
+            ),
+            (
+                "inputs 1\noutputs 0\ndeclared\nchange 1",
+                "line 4: no arrow, though ends are declared",
+            ),
+            (
+                "inputs 1\noutputs 0 0\ndeclared\nchange 1 -> 1",
+                "line 4: 1 classes for 2 outputs",
+            ),
+            (
+                "inputs 1\noutputs 0\ndeclared\nchange 1 ->",
+                "line 4: 0 classes for 1 outputs",
+            ),
+            (
+                "inputs 1\noutputs 0\ndeclared\nchange 1 -> S",
+                "line 4: `S` is no class of an output",
+            ),
+            (
+                "inputs 1\noutputs 0\ndeclared\nchange 1 -> 1 -> 1",
+                "line 4: `-` is no class of an output",
+            ),
+            (
+                "inputs 1\nchange 1\ndeclared",
+                "line 3: `declared` stands once, before all changes",
+            ),
+            (
+                "declared\ndeclared",
+                "line 2: `declared` stands once, before all changes",
+            ),
+            (
+                "inputs 1\noutputs 0\ndeclared\nchange 1 -> 1\noutputs 0",
+                "line 5: outputs stand before the changes that declare them",
+            ),
+            (
                 "netlist 4",
                 "line 1: `4` is not a pair of hexadecimal digits",
             ),
@@ -509,7 +637,7 @@ mod tests {
             match round % 3 {
                 0 => {}
                 1 => random::damage_netlist(&mut random, &card, &mut netlist),
-                _ => random::damage_list(&mut random, card.inputs, &mut list),
+                _ => random::damage_list(&mut random, &card, &mut list),
             }
             let keep = |bytes, kept| if kept { Some(bytes) } else { None };
             let files = Files {

@@ -8,17 +8,19 @@ use lib.ListN.{length, take, drop}
 use Rattle.netlist.specs.Netlist.{inputsOf, gatesOf, outputAt}
 use Rattle.changes.specs.declared.Task.{Task}
 use Rattle.changes.specs.declared.Listed.the-variants.{Accepted}
-use Rattle.changes.specs.Changes.{widthOf, inputClassAt, sourcesOf}
+use Rattle.changes.specs.Changes.{layoutIn, inputClassAt, sourcesOf}
 use Rattle.changes.specs.Lent.{Accepts, signalsOf}
 use Rattle.changes.specs.Refusals.{listChecked}
+use Rattle.changes.proofs.Accepted.{laid}
 use Rattle.changes.proofs.Rooms.{in-room, accepts}
+use Rattle.wanted.specs.Wanted.{wantedAt}
 use Rattle.search.specs.Search as search
 use Rattle.visit.specs.Found.{foundOf}
 use Rattle.visit.specs.Lent.{inputsKnown}
 use Rattle.outputs.proofs.Ready.{output-is, output-below, rows-long}
 use Rattle.core.specs.Core.{searchOf}
 use Rattle.core.specs.Codes.{answeredBy}
-use Rattle.core.proofs.Entry.{list-formed, card-formed, known-is, known-all, searchable, search-is, clean-set}
+use Rattle.core.proofs.Entry.{list-formed, card-formed, known-is, known-all, searchable, search-is}
 use Rattle.core.proofs.Entry.{found-answered, refused-list, refused-change, refused-output, answers}
 use borrow.Author.Needs.{needs}
 use Rattle.core.proofs.core_in.Statement.{statement}
@@ -58,7 +60,7 @@ module _ (c : tie.After-fill-inputs) where
   abbrev lent : List ℕ
   lent = take (signalsOf (task bound .shape)) (c .fill-inputs .last .1 .1 .1 .0)
 
-  known : lent ≡ inputsKnown (inputsOf (netlist bound)) (gatesOf (netlist bound)) (inputClassAt (list bound) (widthOf (inputsOf (netlist bound))) (begun bound .args .change))
+  known : lent ≡ inputsKnown (inputsOf (netlist bound)) (gatesOf (netlist bound)) (inputClassAt (list bound) (layoutIn (netlist bound) (list bound)) (begun bound .args .change))
   known =
       known-is (netlist bound) (list bound) (rows bound) (task bound) (given bound) (begun bound .args .change) _ _
       (ap (drop (task bound .shape .inputs)) (begun bound .pre .1)) (room bound) (c .fill-inputs .ensures)
@@ -115,7 +117,7 @@ fill-inputs-requires : tie.Need-fill-inputs-requires
 fill-inputs-requires c κs =
     let k = c .before .before .before .before .before .before .before .before in
     let f = list-formed (netlist k) (list k) (rows k) (task k) (given k) (begun k .args .change) in
-    (f .width-high, omega (arith, f .changes-high, c .before .before .before .before .before .if1 .left), omega (arith, room k))
+    (f .width-high, f .row-high, omega (arith, f .changes-high, c .before .before .before .before .before .if1 .left), omega (arith, room k))
 
 add-signals : tie.Need-add-signals
 add-signals c =
@@ -132,17 +134,25 @@ output-of-requires c κs =
 cast-s : tie.Need-cast-s
 cast-s c = search needs
 
+wanted-set-requires : tie.Need-wanted-set-requires
+wanted-set-requires c κs =
+    let k = bound (filled c) in
+    let f = list-formed (netlist k) (list k) (rows k) (task k) (given k) (begun k .args .change) in
+    let early = filled c .before .before .before .before .before .before .if1 .left in
+    let card = card-formed (netlist k) (list k) (rows k) (task k) (given k) (begun k .args .change) in
+    (f .width-high, f .row-high, omega (arith, f .changes-high, early), omega (arith, inside c, card .outputs-high))
+
 slice-relend-prefix-find : tie.Need-slice-relend-prefix-find
 slice-relend-prefix-find c =
-    let f = c .before .before .before .before .before .before .before in
+    let f = c .before .before .before .before .before .before .before .before in
     omega (arith, room (bound f), f .fill-inputs .kept .1 .1 .1 .0)
 
 slice-aggregate-find : tie.Need-slice-aggregate-find
-slice-aggregate-find c = sym (all-known (c .before .before .before .before .before .before .before .before))
+slice-aggregate-find c = sym (all-known (c .before .before .before .before .before .before .before .before .before))
 
 find-requires : tie.Need-find-requires
 find-requires c κs =
-    let o = c .before .before .before in
+    let o = c .before .before .before .before in
     let f = filled o in
     let k = bound f in
     let r = searchable (netlist k) (list k) (rows k) (task k) (given k) (begun k .args .change) (f .before .before .search .ensures) _ (known f) (task k .shape .outputs) (omega arith) in
@@ -159,29 +169,32 @@ returns-3 c = refused-list _ _ _ _ _ _ (sym (c .before .before .before .before .
 
 same-length-4 : tie.Need-same-length-4
 same-length-4 c =
-    let k = bound (filled (c .before .before .before .before .before .before .before)) in
+    let k = bound (filled (c .before .before .before .before .before .before .before .before)) in
     k .before .before .before .before .decode .kept .1 .1 .0
 
 same-length-5 : tie.Need-same-length-5
 same-length-5 c = search needs
 
 -- the search is that of the definition
-found : (c : tie.After-find) → let o = c .before .before .before .before in
+found : (c : tie.After-find) → let o = c .before .before .before .before .before in
     let k = bound (filled o) in
     c .find .result ≡ foundOf (searchOf (netlist k) (list k) (begun k .args .change) (output o))
 unfolding searchOf
 found c =
-    let o = c .before .before .before .before in
+    let w = c .before .before .before .before in
+    let o = w .before in
     let k = bound (filled o) in
+    let t = begun k .args .change in
     c .find .ensures .0
     ∙ ap foundOf
-    (search-is (netlist k) (list k) (rows k) (task k) (given k) (begun k .args .change) _ (known (filled o)) 15 _
-    ∙ ap₂ (search.search (sourcesOf (netlist k) (list k) (begun k .args .change))) (sym clean-set) (signal o))
+    (search-is (netlist k) (list k) (rows k) (task k) (given k) t _ (known (filled o)) _ _
+    ∙ ap₂ (search.search (sourcesOf (netlist k) (list k) t))
+    (w .wanted-set .ensures ∙ ap (λ layout. wantedAt (list k) layout t (output o)) (laid (netlist k) (list k) (accepted k))) (signal o))
 
 returns-4 : tie.Need-returns-4
 returns-4 c =
     let f = c .before .before .before in
-    let o = f .before .before .before .before in
+    let o = f .before .before .before .before .before in
     let k = bound (filled o) in
     let t = begun k .args .change in
     let a = searchOf (netlist k) (list k) t (output o) in
@@ -206,6 +219,7 @@ core-in-spec =
     add-signals
     output-of-requires
     cast-s
+    wanted-set-requires
     slice-relend-prefix-find
     slice-aggregate-find
     find-requires

@@ -95,7 +95,7 @@ fill-inputs-requires c κs =
     let e = c .before .before .before in
     let k = e .before .before .before .before .before .before in
     let f = list-formed _ _ _ _ (given k) 0 in
-    (f .width-high, omega (arith, f .changes-high, e .before .before .before .if1 .left), omega (arith, room k))
+    (f .width-high, f .row-high, omega (arith, f .changes-high, e .before .before .before .if1 .left), omega (arith, room k))
 
 spread-requires : tie.Need-spread-requires
 spread-requires c κs =
@@ -108,17 +108,24 @@ spread-requires c κs =
 add-signals : tie.Need-add-signals
 add-signals c = let f = card-formed _ _ _ _ (given (bound (c .before .before .before .before .before))) 0 in omega (arith, f .inputs-high, f .gates-high)
 
+wanted-sets-requires : tie.Need-wanted-sets-requires
+wanted-sets-requires c κs =
+    let s = c .before .before .before .before .before in
+    let e = filling s .before .before .before .before in
+    let f = list-formed _ _ _ _ (given (bound s)) 0 in
+    (f .width-high, f .row-high, omega (arith, f .changes-high, e .before .before .before .if1 .left))
+
 slice-relend-prefix-search-outputs : tie.Need-slice-relend-prefix-search-outputs
 slice-relend-prefix-search-outputs c =
-    let s = c .before .before .before .before .before .before .before in
+    let s = c .before .before .before .before .before .before .before .before .before in
     omega (arith, room (bound s), s .spread .kept .1 .1 .1 .1 .0, filling s .fill-inputs .kept .1 .1 .1 .0)
 
 slice-aggregate-search-outputs : tie.Need-slice-aggregate-search-outputs
-slice-aggregate-search-outputs c = sym (lent-all (c .before .before .before .before .before .before .before .before))
+slice-aggregate-search-outputs c = sym (lent-all (c .before .before .before .before .before .before .before .before .before .before))
 
 search-outputs-requires : tie.Need-search-outputs-requires
 search-outputs-requires c κs =
-    let s = c .before .before .before .before .before .before .before .before .before in
+    let s = c .before .before .before .before .before .before .before .before .before .before .before in
     let i = filling s in
     let k = bound s in
     changes.searchable (netlist k) (list k) (rows k) (task k) (given k) (begun k .args .change) (begun k .args .known .now) (room k)
@@ -134,7 +141,7 @@ same-length-4 : tie.Need-same-length-4
 same-length-4 c = search needs
 
 same-length-5 : tie.Need-same-length-5
-same-length-5 c = let k = bound (c .before .before .before .before .before .before .before .before .before .before .before .before .before .before) in k .before .before .before .before .decode .kept .1 .1 .0
+same-length-5 c = let k = bound (c .before .before .before .before .before .before .before .before .before .before .before .before .before .before .before .before) in k .before .before .before .before .decode .kept .1 .1 .0
 
 same-length-6 : tie.Need-same-length-6
 same-length-6 c = search needs
@@ -145,17 +152,18 @@ same-length-7 c = search needs
 returns-4 : tie.Need-returns-4
 returns-4 c =
     let o = c .before .before .before .before in
-    let s = o .before .before .before .before .before .before .before .before .before .before in
+    let w = o .before .before .before .before .before .before in
+    let s = w .before .before .before .before .before .before in
     let i = filling s in
     let k = bound s in
     let e = i .before .before .before .before in
     done _ _ _ _ (accepted k) (e .before .before .before .if1 .left) (e .if2 .left) _ _
     (changes.touched-by (netlist k) (list k) (rows k) (task k) (given k) (begun k .args .change) (begun k .args .known .now) (room k) _ (i .fill-inputs .ensures) _
     (s .spread .ensures .0))
-    (changes.visited-by (netlist k) (list k) (rows k) (task k) (given k) (begun k .args .change) (begun k .args .known .now) (room k) _ (known s) _
+    (changes.visited-by (netlist k) (list k) (rows k) (task k) (given k) (begun k .args .change) (begun k .args .known .now) (room k) _ (w .wanted-sets .ensures) _ (known s) _
     (o .search-outputs .ensures .0))
     _
-    (changes.bytes-by (netlist k) (list k) (rows k) (task k) (given k) (begun k .args .change) (begun k .args .known .now) (room k) _ (known s) _ _
+    (changes.bytes-by (netlist k) (list k) (rows k) (task k) (given k) (begun k .args .change) (begun k .args .known .now) (room k) _ (w .wanted-sets .ensures) _ (known s) _ _
     (o .search-outputs .ensures .1 .1 .0))
 
 pub forward-in-spec : {M : Type 1} → statement M
@@ -174,6 +182,7 @@ forward-in-spec =
     fill-inputs-requires
     spread-requires
     add-signals
+    wanted-sets-requires
     slice-relend-prefix-search-outputs
     slice-aggregate-search-outputs
     search-outputs-requires

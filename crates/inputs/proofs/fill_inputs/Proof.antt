@@ -6,31 +6,38 @@ use lib.ListN.{length}
 use borrow.Author.Needs.{needs}
 use Rattle.changes.specs.Changes.{sizeOf}
 use Rattle.changes.proofs.Laws.{change-high}
-use Rattle.inputs.specs.Written.{codeAt, written}
+use Rattle.inputs.specs.Written.{codeFrom, written}
 use Rattle.inputs.proofs.Laws.{written-none, written-kept, written-all, byte-written}
 use Rattle.inputs.proofs.fill_inputs.Statement.{statement}
 use Rattle.inputs.proofs.fill_inputs.Tie as tie
 
 abbrev Inv-loop : tie.InvT-loop
-Inv-loop list t buffer₀ inputs width first second whole j₀ buffer j = (j ≤ whole) × (buffer ≡ written buffer₀ 0 (codeAt list width t) (8 * j))
+Inv-loop list t buffer₀ inputs width first second whole j₀ buffer j = (j ≤ whole) × (buffer ≡ written buffer₀ 0 (codeFrom list first second) (8 * j))
 
 abbrev μ-loop : tie.MeasureT-loop
 μ-loop list t buffer₀ inputs width first second whole j₀ buffer j = whole - j
 
-kept : (c : tie.At-loop Inv-loop μ-loop) → length (c .loop .buffer) ≡ length (c .before .before .before .before .args .buffer .now)
+kept : (c : tie.At-loop Inv-loop μ-loop) → length (c .loop .buffer) ≡ length (c .before .before .before .before .before .before .args .buffer .now)
 kept c = ap length (c .loop .inv .1) ∙ written-kept _ _ _ _ (search needs)
 
-high : (c : tie.After-shape Inv-loop μ-loop) → c .before .before .before .args .t * sizeOf (c .before .before .before .args .task .width) ≤ 64000
-high c = change-high _ _ (c .before .before .before .pre .0) (c .before .before .before .pre .1)
+high : (c : tie.After-struct-known Inv-loop μ-loop)
+    → (let a = c .before .before .before .before .before .args in a .t * sizeOf (a .task .layout .width) (a .task .layout .row) ≤ 80000)
+high c = let p = c .before .before .before .before .before .pre in change-high _ _ _ (p .0) (p .1) (p .2)
 
 mul-first : tie.Need-mul-first Inv-loop μ-loop
 mul-first c = search needs
 
 mul-first-2 : tie.Need-mul-first-2 Inv-loop μ-loop
-mul-first-2 c = omega (arith, high c)
+mul-first-2 c = search needs
 
 add-first : tie.Need-add-first Inv-loop μ-loop
-add-first c = omega (arith, high c)
+add-first c = search needs
+
+mul-first-3 : tie.Need-mul-first-3 Inv-loop μ-loop
+mul-first-3 c = omega (arith, high c)
+
+add-first-2 : tie.Need-add-first-2 Inv-loop μ-loop
+add-first-2 c = omega (arith, high c)
 
 add-second : tie.Need-add-second Inv-loop μ-loop
 add-second c = omega (arith, high c)
@@ -96,7 +103,7 @@ returns c =
     let f = c .before .before in
     let b = f .before .before in
     let l = b .before .before .before in
-    let n = l .before .before .before .before .args .task .shape .inputs in
+    let n = l .before .before .before .before .before .before .args .task .shape .inputs in
     let e : 8 * (n / 8) + n % 8 ≡ n = omega arith in
     let whole : l .loop .j ≡ n / 8 = search needs in
     f .fill-byte2 .ensures
@@ -112,6 +119,8 @@ fill-inputs-spec =
     mul-first
     mul-first-2
     add-first
+    mul-first-3
+    add-first-2
     add-second
     loop-holds
     add-byte-at

@@ -17,7 +17,7 @@ use Rattle.lines.proofs.classify.Tie as tie
 
 -- the inputs' classes, then all signals'
 classes-from : (l : List ℕ) (task : Task) (rows : List ℕ) (t : ℕ) (old : List ℕ) {now exit : List ℕ}
-    → now ≡ inputCodes l (task .width) t (task .shape .inputs) ++ drop (task .shape .inputs) old
+    → now ≡ inputCodes l (task .layout) t (task .shape .inputs) ++ drop (task .shape .inputs) old
     → exit ≡ codesOf rows now (task .shape .inputs) (task .shape .gates) (signalsOf (task .shape)) ++ drop (signalsOf (task .shape)) now
     → exit ≡ classesFrom l task rows t old
 classes-from l task rows t old e x =
@@ -27,7 +27,7 @@ fill-inputs-requires : tie.Need-fill-inputs-requires
 fill-inputs-requires c κs =
     let p = c .before .before .before .before .before .before .pre in
     let f = list-formed _ _ _ _ (p .1 .0) 0 in
-    (f .width-high, omega (arith, f .changes-high, p .1 .1), omega (arith, p .0 .1))
+    (f .width-high, f .row-high, omega (arith, f .changes-high, p .1 .1), omega (arith, p .0 .1))
 
 slice-aggregate-pass : tie.Need-slice-aggregate-pass
 slice-aggregate-pass c = search needs

@@ -9,7 +9,7 @@ use lib.ListN.{length, take, drop, replicate, length-replicate}
 use Rattle.netlist.specs.Netlist.{inputsOf, gatesOf}
 use Rattle.netlist.specs.Formed.{Formed}
 use Rattle.changes.specs.declared.Task.{Task}
-use Rattle.changes.specs.Changes.{widthOf, inputClassAt}
+use Rattle.changes.specs.Changes.{layoutIn, inputClassAt}
 use Rattle.changes.specs.Formed.{ListFormed}
 use Rattle.changes.specs.Lent.{Accepts, signalsOf}
 use Rattle.changes.specs.Refusals.{listChecked}
@@ -97,7 +97,7 @@ module _ (c : tie.After-fill-inputs Inv-loop μ-loop) where
   abbrev lent : List ℕ
   lent = take (signals k) (c .fill-inputs .last .1 .1 .1 .0)
 
-  known : lent ≡ inputsKnown (inputsOf (netlist k)) (gatesOf (netlist k)) (inputClassAt (list k) (widthOf (inputsOf (netlist k))) (change k))
+  known : lent ≡ inputsKnown (inputsOf (netlist k)) (gatesOf (netlist k)) (inputClassAt (list k) (layoutIn (netlist k) (list k)) (change k))
   known =
       entry.known-is (netlist k) (list k) (rows k) (task k) (given k) (change k) (k .loop .known) _
       (k .loop .inv .4) (omega (arith, few k, k .loop .inv .5)) (c .fill-inputs .ensures)
@@ -107,19 +107,23 @@ module _ (c : tie.After-fill-inputs Inv-loop μ-loop) where
 
 -- the lines of the change, from the numbers that are kept of its outputs
 module _ (c : tie.After-judge-outputs Inv-loop μ-loop) where
+  abbrev wanting : tie.After-wanted-sets Inv-loop μ-loop
+  wanting = c .before .before .before .before .before .before
+
   abbrev filled : tie.After-fill-inputs Inv-loop μ-loop
-  filled = c .before .before .before .before .before .before
+  filled = wanting .before .before
 
   abbrev here : tie.At-loop Inv-loop μ-loop
   here = k filled
 
   abbrev numbers : List ℕ
-  numbers = c .judge-outputs .last .1 .1 .1 .1 .1 .0
+  numbers = c .judge-outputs .last .1 .1 .1 .1 .1 .1 .0
 
   same : texts (textIn numbers (change here)) 0 (task here .shape .outputs) ≡ changeLines (netlist here) (list here) (change here)
   same =
       lines-same (netlist here) (list here) (rows here) (task here) (given here) (change here) (here .loop .inv .0) (lent filled)
-      (classes (filled .before .before .before)) _ numbers (known filled) (classified (filled .before .before .before)) (c .judge-outputs .ensures .0)
+      (classes (filled .before .before .before)) _ numbers (known filled) (classified (filled .before .before .before)) _ (wanting .wanted-sets .ensures)
+      (c .judge-outputs .ensures .0)
 
 -- the page with the lines of one change more
 module _ (c : tie.After-put-lines Inv-loop μ-loop) where
@@ -171,15 +175,20 @@ slice-aggregate-fill-inputs c = search needs
 fill-inputs-requires : tie.Need-fill-inputs-requires Inv-loop μ-loop
 fill-inputs-requires c κs =
     let k = c .before .before .before .before .before .before in
-    (of-list k .width-high, omega (arith, of-list k .changes-high, k .loop .inv .0), omega (arith, few k, k .loop .inv .5))
+    (of-list k .width-high, of-list k .row-high, omega (arith, of-list k .changes-high, k .loop .inv .0), omega (arith, few k, k .loop .inv .5))
+
+wanted-sets-requires : tie.Need-wanted-sets-requires Inv-loop μ-loop
+wanted-sets-requires c κs =
+    let k = k (c .before) in
+    (of-list k .width-high, of-list k .row-high, omega (arith, of-list k .changes-high, k .loop .inv .0))
 
 array-borrow-prefix-known : tie.Need-array-borrow-prefix-known Inv-loop μ-loop
 array-borrow-prefix-known c =
-    let f = c .before .before in
+    let f = c .before .before .before .before in
     omega (arith, few (k f), f .fill-inputs .kept .1 .1 .1 .0, k f .loop .inv .5)
 
 slice-aggregate-judge-outputs : tie.Need-slice-aggregate-judge-outputs Inv-loop μ-loop
-slice-aggregate-judge-outputs c = sym (all-known (c .before .before .before))
+slice-aggregate-judge-outputs c = sym (all-known (c .before .before .before .before .before))
 
 slice-aggregate-judge-outputs-2 : tie.Need-slice-aggregate-judge-outputs-2 Inv-loop μ-loop
 slice-aggregate-judge-outputs-2 c = search needs
@@ -189,7 +198,7 @@ slice-aggregate-judge-outputs-3 c = search needs
 
 judge-outputs-requires : tie.Need-judge-outputs-requires Inv-loop μ-loop
 judge-outputs-requires c κs =
-    let f = c .before .before .before .before .before in
+    let f = c .before .before .before .before .before .before .before in
     let k = k f in (
       entry.searchable (netlist k) (list k) (rows k) (task k) (given k) (change k) (k .before .before .before .before .search .ensures) (lent f) (known f) 64
           (card k .outputs-high),
@@ -204,7 +213,7 @@ put-lines-requires c κs =
     let j = c .before .before .before .before in
     let k = here j in
     let g = k .loop .inv .3 .there in (
-      (card k .outputs-high, omega (arith, k .loop .inv .2, j .judge-outputs .kept .1 .1 .1 .1 .1 .0)),
+      (card k .outputs-high, omega (arith, k .loop .inv .2, j .judge-outputs .kept .1 .1 .1 .1 .1 .1 .0)),
       rw (same j)
           (omega (
             arith,
@@ -223,7 +232,7 @@ add-change c =
 
 -- the searches leave what is known
 again : (c : tie.After-judge-outputs Inv-loop μ-loop) → let f = filled c in
-    c .judge-outputs .last .1 .1 .1 .0 ++ drop (signals (k f)) (f .fill-inputs .last .1 .1 .1 .0) ≡ f .fill-inputs .last .1 .1 .1 .0
+    c .judge-outputs .last .1 .1 .1 .1 .0 ++ drop (signals (k f)) (f .fill-inputs .last .1 .1 .1 .0) ≡ f .fill-inputs .last .1 .1 .1 .0
 again c = entry.part-back (signals (k (filled c))) _ _ (c .judge-outputs .ensures .1)
 
 loop-less : tie.Need-loop-less Inv-loop μ-loop
@@ -238,9 +247,9 @@ loop-again c =
     let j = judged p in (
       omega (arith, k .loop .inv .0, c .if1 .left),
       omega (arith, k .loop .inv .1, filled j .before .before .before .classify .kept .1 .1 .1 .1 .1 .1 .0),
-      omega (arith, k .loop .inv .2, j .judge-outputs .kept .1 .1 .1 .1 .1 .0),
+      omega (arith, k .loop .inv .2, j .judge-outputs .kept .1 .1 .1 .1 .1 .1 .0),
       more p,
-      entry.none-again (list k) (task k .width) (change k) (task k .shape .inputs) (k .loop .known) _ _ (k .loop .inv .4)
+      entry.none-again (list k) (task k .layout) (change k) (task k .shape .inputs) (k .loop .known) _ _ (k .loop .inv .4)
           (filled j .fill-inputs .ensures) (filled j .fill-inputs .kept .1 .1 .1 .0) (again j),
       ap length (again j) ∙ filled j .fill-inputs .kept .1 .1 .1 .0 ∙ k .loop .inv .5,
     )
@@ -278,6 +287,7 @@ put-page-spec =
     classify-requires
     slice-aggregate-fill-inputs
     fill-inputs-requires
+    wanted-sets-requires
     array-borrow-prefix-known
     slice-aggregate-judge-outputs
     slice-aggregate-judge-outputs-2

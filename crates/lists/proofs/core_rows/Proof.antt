@@ -7,7 +7,7 @@ use mathlib.Core.Bool.{true}
 use mathlib.Core.List.{List, _++_}
 use lib.ListN.{length, take, drop}
 use Rattle.netlist.specs.Netlist.{inputsOf, gatesOf}
-use Rattle.changes.specs.Changes.{widthOf, inputClassAt}
+use Rattle.changes.specs.Changes.{layoutIn, inputClassAt}
 use Rattle.changes.specs.Lent.{Accepts, signalsOf}
 use Rattle.changes.specs.declared.Task.{Task}
 use Rattle.changes.proofs.Accepted.{listed}
@@ -92,7 +92,7 @@ module _ (c : tie.After-fill-inputs Inv-loop μ-loop) where
   abbrev lent : List ℕ
   lent = take (signals b) (c .fill-inputs .last .1 .1 .1 .0)
 
-  known : lent ≡ inputsKnown (inputsOf (netlist b)) (gatesOf (netlist b)) (inputClassAt (list b) (widthOf (inputsOf (netlist b))) (at .loop .change))
+  known : lent ≡ inputsKnown (inputsOf (netlist b)) (gatesOf (netlist b)) (inputClassAt (list b) (layoutIn (netlist b) (list b)) (at .loop .change))
   known =
       known-is (netlist b) (list b) (rows b) (task b) (given b) (at .loop .change) _ _ (at .loop .inv .4) (told at) (c .fill-inputs .ensures)
 
@@ -101,8 +101,11 @@ module _ (c : tie.After-fill-inputs Inv-loop μ-loop) where
 
 -- the counts with this change's
 module _ (c : tie.After-search-outputs Inv-loop μ-loop) where
+  abbrev wanting : tie.After-wanted-sets Inv-loop μ-loop
+  wanting = c .before .before .before .before .before
+
   abbrev filling : tie.After-fill-inputs Inv-loop μ-loop
-  filling = c .before .before .before .before .before .before
+  filling = wanting .before .before .before
 
   abbrev l : tie.At-loop Inv-loop μ-loop
   l = at filling
@@ -113,13 +116,13 @@ module _ (c : tie.After-search-outputs Inv-loop μ-loop) where
   visited : Counted (coreSum (λ a. a .gates) (netlist s) (list s)) (l .loop .change + 1) (l .loop .visited + c .search-outputs .result .gates)
   visited =
       counted-next (l .loop .inv .2) _
-      (c .search-outputs .ensures .0 ∙ sums-are (netlist s) (list s) (rows s) (task s) (given s) (l .loop .change) _ (known filling) (λ a. a .gates))
+      (c .search-outputs .ensures .0 ∙ sums-are (netlist s) (list s) (rows s) (task s) (given s) (l .loop .change) _ (known filling) _ (wanting .wanted-sets .ensures) (λ a. a .gates))
       (searched-high (netlist s) (list s) (given s .accepted) (l .loop .change) .0)
 
   taken : Counted (coreSum (λ a. a .pins) (netlist s) (list s)) (l .loop .change + 1) (l .loop .taken + c .search-outputs .result .pins)
   taken =
       counted-next (l .loop .inv .3) _
-      (c .search-outputs .ensures .1 .0 ∙ sums-are (netlist s) (list s) (rows s) (task s) (given s) (l .loop .change) _ (known filling) (λ a. a .pins))
+      (c .search-outputs .ensures .1 .0 ∙ sums-are (netlist s) (list s) (rows s) (task s) (given s) (l .loop .change) _ (known filling) _ (wanting .wanted-sets .ensures) (λ a. a .pins))
       (searched-high (netlist s) (list s) (given s .accepted) (l .loop .change) .1)
 
   changes-few : task s .changes ≤ 1000
@@ -145,28 +148,34 @@ fill-inputs-requires : tie.Need-fill-inputs-requires Inv-loop μ-loop
 fill-inputs-requires c κs =
     let i = c .before in
     let f = listed _ _ (given (begun (i .before)) .accepted) in
-    (f .width-high, omega (arith, f .changes-high, i .loop-test .taken), omega (arith, told (i .before)))
+    (f .width-high, f .row-high, omega (arith, f .changes-high, i .loop-test .taken), omega (arith, told (i .before)))
+
+wanted-sets-requires : tie.Need-wanted-sets-requires Inv-loop μ-loop
+wanted-sets-requires c κs =
+    let i = c .before .before .before .before in
+    let f = listed _ _ (given (begun (i .before)) .accepted) in
+    (f .width-high, f .row-high, omega (arith, f .changes-high, i .loop-test .taken))
 
 slice-relend-prefix-search-outputs : tie.Need-slice-relend-prefix-search-outputs Inv-loop μ-loop
 slice-relend-prefix-search-outputs c =
-    let f = c .before .before .before in
+    let f = c .before .before .before .before .before in
     omega (arith, told (at f), f .fill-inputs .kept .1 .1 .1 .0)
 
 slice-aggregate-search-outputs : tie.Need-slice-aggregate-search-outputs Inv-loop μ-loop
-slice-aggregate-search-outputs c = sym (lent-all (c .before .before .before .before))
+slice-aggregate-search-outputs c = sym (lent-all (c .before .before .before .before .before .before))
 
 sub-search-outputs : tie.Need-sub-search-outputs Inv-loop μ-loop
-sub-search-outputs c = omega (arith, room (inside (c .before .before .before .before)))
+sub-search-outputs c = omega (arith, room (inside (c .before .before .before .before .before .before)))
 
 part-search-outputs-start : tie.Need-part-search-outputs-start Inv-loop μ-loop
-part-search-outputs-start c = omega (arith, room (inside (c .before .before .before .before)))
+part-search-outputs-start c = omega (arith, room (inside (c .before .before .before .before .before .before)))
 
 part-search-outputs-end : tie.Need-part-search-outputs-end Inv-loop μ-loop
 part-search-outputs-end c = omega arith
 
 search-outputs-requires : tie.Need-search-outputs-requires Inv-loop μ-loop
 search-outputs-requires c κs =
-    let f = c .before .before .before .before .before in
+    let f = c .before .before .before .before .before .before .before in
     let l = at f in
     let s = begun l in
     searchable (netlist s) (list s) (rows s) (task s) (given s) (l .loop .change) (l .before .before .before .search .ensures) (lent f) (known f) _
@@ -189,7 +198,7 @@ add-change c =
 
 -- a search leaves what is known
 again : (c : tie.After-search-outputs Inv-loop μ-loop) → let f = filling c in
-    c .search-outputs .last .1 .1 .1 .0 ++ drop (signals (b f)) (f .fill-inputs .last .1 .1 .1 .0) ≡ f .fill-inputs .last .1 .1 .1 .0
+    c .search-outputs .last .1 .1 .1 .1 .0 ++ drop (signals (b f)) (f .fill-inputs .last .1 .1 .1 .0) ≡ f .fill-inputs .last .1 .1 .1 .0
 again c = part-back (signals (b (filling c))) _ _ (c .search-outputs .ensures .1 .1 .1)
 
 loop-less : tie.Need-loop-less Inv-loop μ-loop
@@ -203,10 +212,10 @@ loop-again c =
     let s = begun l in (
       omega (arith, inside f .loop-test .taken),
       rowed-next (regular s) (l .loop .change) _ _ _ (l .loop .inv .1)
-          (o .search-outputs .ensures .1 .1 .0 ∙ bytes-are (netlist s) (list s) (rows s) (task s) (given s) (l .loop .change) _ (known f) _),
+          (o .search-outputs .ensures .1 .1 .0 ∙ bytes-are (netlist s) (list s) (rows s) (task s) (given s) (l .loop .change) _ (known f) _ (wanting o .wanted-sets .ensures) _),
       visited o,
       taken o,
-      none-again (list s) (task s .width) (l .loop .change) (task s .shape .inputs) (l .loop .known) _ _ (l .loop .inv .4) (f .fill-inputs .ensures)
+      none-again (list s) (task s .layout) (l .loop .change) (task s .shape .inputs) (l .loop .known) _ _ (l .loop .inv .4) (f .fill-inputs .ensures)
           (f .fill-inputs .kept .1 .1 .1 .0) (again o),
       ap length (again o) ∙ f .fill-inputs .kept .1 .1 .1 .0 ∙ l .loop .inv .5,
       after-next _ _ (l .loop .change) _ _ (l .loop .inv .6) (again o ∙ f .fill-inputs .ensures),
@@ -238,6 +247,7 @@ core-rows-spec =
     loop-holds
     mul-at
     fill-inputs-requires
+    wanted-sets-requires
     slice-relend-prefix-search-outputs
     slice-aggregate-search-outputs
     sub-search-outputs

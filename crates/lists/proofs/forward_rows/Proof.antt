@@ -115,8 +115,11 @@ module _ (c : tie.After-spread Inv-loop μ-loop) where
 
 -- the gates visited with this change's
 module _ (c : tie.After-search-outputs Inv-loop μ-loop) where
+  abbrev wanting : tie.After-wanted-sets Inv-loop μ-loop
+  wanting = c .before .before .before .before .before
+
   abbrev spreading : tie.After-spread Inv-loop μ-loop
-  spreading = c .before .before .before .before .before .before .before .before
+  spreading = wanting .before .before .before .before .before
 
   abbrev l : tie.At-loop Inv-loop μ-loop
   l = at spreading
@@ -127,7 +130,7 @@ module _ (c : tie.After-search-outputs Inv-loop μ-loop) where
   visited : Counted (visitedIn (netlist s) (list s)) (l .loop .change + 1) (l .loop .visited + c .search-outputs .result .gates)
   visited =
       counted-next (l .loop .inv .3) _
-      (changes.visited-by (netlist s) (list s) (rows s) (task s) (given s) (l .loop .change) (l .loop .known) (told l) _ (known spreading) _
+      (changes.visited-by (netlist s) (list s) (rows s) (task s) (given s) (l .loop .change) (l .loop .known) (told l) _ (wanting .wanted-sets .ensures) _ (known spreading) _
       (c .search-outputs .ensures .0))
       (visited-high (netlist s) (list s) (given s .accepted) (l .loop .change))
 
@@ -164,7 +167,7 @@ fill-inputs-requires : tie.Need-fill-inputs-requires Inv-loop μ-loop
 fill-inputs-requires c κs =
     let i = c .before in
     let f = listed _ _ (given (begun (i .before)) .accepted) in
-    (f .width-high, omega (arith, f .changes-high, i .loop-test .taken), omega (arith, told (i .before)))
+    (f .width-high, f .row-high, omega (arith, f .changes-high, i .loop-test .taken), omega (arith, told (i .before)))
 
 spread-requires : tie.Need-spread-requires Inv-loop μ-loop
 spread-requires c κs =
@@ -180,26 +183,32 @@ add-touched c =
     let s = b p in
     omega (arith, touched p .high, listed _ _ (given s .accepted) .changes-high, inside p .loop-test .taken)
 
+wanted-sets-requires : tie.Need-wanted-sets-requires Inv-loop μ-loop
+wanted-sets-requires c κs =
+    let i = inside (c .before .before .before .before) in
+    let f = listed _ _ (given (begun (i .before)) .accepted) in
+    (f .width-high, f .row-high, omega (arith, f .changes-high, i .loop-test .taken))
+
 slice-relend-prefix-search-outputs : tie.Need-slice-relend-prefix-search-outputs Inv-loop μ-loop
 slice-relend-prefix-search-outputs c =
-    let p = c .before .before .before .before .before in
+    let p = c .before .before .before .before .before .before .before in
     omega (arith, told (at p), p .spread .kept .1 .1 .1 .1 .0, filling p .fill-inputs .kept .1 .1 .1 .0)
 
 slice-aggregate-search-outputs : tie.Need-slice-aggregate-search-outputs Inv-loop μ-loop
-slice-aggregate-search-outputs c = sym (lent-all (c .before .before .before .before .before .before))
+slice-aggregate-search-outputs c = sym (lent-all (c .before .before .before .before .before .before .before .before))
 
 sub-search-outputs : tie.Need-sub-search-outputs Inv-loop μ-loop
-sub-search-outputs c = omega (arith, room (inside (c .before .before .before .before .before .before)))
+sub-search-outputs c = omega (arith, room (inside (c .before .before .before .before .before .before .before .before)))
 
 part-search-outputs-start : tie.Need-part-search-outputs-start Inv-loop μ-loop
-part-search-outputs-start c = omega (arith, room (inside (c .before .before .before .before .before .before)))
+part-search-outputs-start c = omega (arith, room (inside (c .before .before .before .before .before .before .before .before)))
 
 part-search-outputs-end : tie.Need-part-search-outputs-end Inv-loop μ-loop
 part-search-outputs-end c = omega arith
 
 search-outputs-requires : tie.Need-search-outputs-requires Inv-loop μ-loop
 search-outputs-requires c κs =
-    let p = c .before .before .before .before .before .before .before in
+    let p = c .before .before .before .before .before .before .before .before .before in
     let l = at p in
     let s = begun l in
     changes.searchable (netlist s) (list s) (rows s) (task s) (given s) (l .loop .change) (l .loop .known) (told l) (l .before .before .before .search .ensures)
@@ -217,7 +226,7 @@ add-change c =
 
 -- a search leaves what is known
 again : (c : tie.After-search-outputs Inv-loop μ-loop) → let p = spreading c in
-    c .search-outputs .last .1 .1 .1 .0 ++ drop (signals (b p)) (p .spread .last .1 .1 .1 .1 .0) ≡ p .spread .last .1 .1 .1 .1 .0
+    c .search-outputs .last .1 .1 .1 .1 .0 ++ drop (signals (b p)) (p .spread .last .1 .1 .1 .1 .0) ≡ p .spread .last .1 .1 .1 .1 .0
 again c = part-back (signals (b (spreading c))) _ _ (c .search-outputs .ensures .1 .1 .1)
 
 loop-less : tie.Need-loop-less Inv-loop μ-loop
@@ -231,7 +240,7 @@ loop-again c =
     let s = begun l in (
       omega (arith, inside p .loop-test .taken),
       rowed-next (regular s) (l .loop .change) _ _ _ (l .loop .inv .1)
-          (changes.bytes-by (netlist s) (list s) (rows s) (task s) (given s) (l .loop .change) (l .loop .known) (told l) _ (known p) _ _
+          (changes.bytes-by (netlist s) (list s) (rows s) (task s) (given s) (l .loop .change) (l .loop .known) (told l) _ (wanting o .wanted-sets .ensures) _ (known p) _ _
           (o .search-outputs .ensures .1 .1 .0)),
       touched p,
       visited o,
@@ -275,6 +284,7 @@ forward-rows-spec =
     fill-inputs-requires
     spread-requires
     add-touched
+    wanted-sets-requires
     slice-relend-prefix-search-outputs
     slice-aggregate-search-outputs
     sub-search-outputs

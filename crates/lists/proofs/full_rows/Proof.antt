@@ -89,7 +89,7 @@ fill-inputs-requires : tie.Need-fill-inputs-requires Inv-loop μ-loop
 fill-inputs-requires c κs =
     let i = c .before .before in
     let f = listed _ _ (begun (i .before) .pre .0 .0 .accepted) in
-    (f .width-high, omega (arith, f .changes-high, i .loop-test .taken), omega (arith, lent i))
+    (f .width-high, f .row-high, omega (arith, f .changes-high, i .loop-test .taken), omega (arith, lent i))
 
 pass-requires : tie.Need-pass-requires Inv-loop μ-loop
 pass-requires c κs =

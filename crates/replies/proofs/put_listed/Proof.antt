@@ -24,7 +24,7 @@ returns c = same listAnswer (c .before .before .before .listed .given .1) (c .re
 
 returns-2 : tie.Need-returns-2
 unfolding listAnswer
-returns-2 c = same listAnswer (c .before .before .before .listed2 .given .1) (refl, c .put .ensures)
+returns-2 c = same listAnswer (c .before .before .before .before .listed2 .given .1) (refl, c .put .ensures)
 
 pub put-listed-spec : {M : Type 1} → statement M
 put-listed-spec = tie.close (tie.spec enum-known-listed refuse-requires enum-known-listed-2 put-requires returns returns-2)

@@ -58,7 +58,7 @@ fill-inputs-requires : tie.Need-fill-inputs-requires
 fill-inputs-requires c κs =
     let e = c .before .before in
     let f = listed _ _ (accepted (e .before .before .before .before .before .before)) in
-    (f .width-high, omega (arith, f .changes-high, e .before .before .before .if1 .left), omega (arith, e .if2 .left))
+    (f .width-high, f .row-high, omega (arith, f .changes-high, e .before .before .before .if1 .left), omega (arith, e .if2 .left))
 
 pass-requires : tie.Need-pass-requires
 pass-requires c κs =

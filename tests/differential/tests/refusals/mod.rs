@@ -1,29 +1,32 @@
 //! Calls that are refused, for every operation with a change number.
 
+use reference::changes::VERSIONS;
 use reference::netlist::Card;
 use reference::random::{self, Random, Shape};
 
-/// Calls on 3,000 damaged cards, with change numbers of which some are past the
-/// list's end; each of these numbers must come back.
+/// Calls on 2,500 damaged cards with lists of each version, with change numbers
+/// of which some are past the list's end; each of these numbers must come back.
 pub fn all_met(
     name: &str,
     seed: u64,
-    numbers: impl IntoIterator<Item = usize>,
+    numbers: impl IntoIterator<Item = usize> + Clone,
     mut call: impl FnMut(&mut Random, &Card, (&[u8], &[u8]), usize) -> u32,
 ) {
     let mut random = Random::new(seed);
-    let mut met = [0; 21];
-    for _ in 0..3000 {
-        let card = random::small_card(&mut random);
-        let (netlist, list) = random::damaged_files(&mut random, &card, 2);
-        let change = random.pick(&[0, 1, 2, usize::MAX]);
-        let number = call(&mut random, &card, (&netlist, &list), change);
-        met[number as usize] += 1;
+    for version in VERSIONS {
+        let mut met = [0; 21];
+        for _ in 0..2500 {
+            let card = random::small_card(&mut random);
+            let (netlist, list) = random::damaged_files(&mut random, &card, version, 2);
+            let change = random.pick(&[0, 1, 2, usize::MAX]);
+            let number = call(&mut random, &card, (&netlist, &list), change);
+            met[number as usize] += 1;
+        }
+        for number in numbers.clone() {
+            assert!(met[number] > 0, "{name}: {number} not met: {met:?}");
+        }
+        println!("{name} damaged {version:?}: 2500 calls compared, by number {met:?}");
     }
-    for number in numbers {
-        assert!(met[number] > 0, "{name}: {number} not met: {met:?}");
-    }
-    println!("{name} damaged: 3000 calls compared, by number {met:?}");
 }
 
 /// Change numbers from the list's end on. 18 comes before 20, so it is the

@@ -9,8 +9,10 @@
 //! cards largest DIR SEED   a random card with all four counts at their limits
 //! cards widest DIR SEED    one of 2,048 gates of eight pins, with deep cones
 //! ```
+//!
+//! The lists are of version 1, or of version 2 where `declared` follows the seed.
 
-use reference::changes::MAX_CHANGES;
+use reference::changes::Version;
 use reference::netlist::{MAX_GATES, MAX_INPUTS, MAX_OUTPUTS};
 use reference::program;
 use reference::random::{self, Random, Shape};
@@ -21,7 +23,7 @@ use std::path::{Path, PathBuf};
 use std::process::ExitCode;
 
 const USAGE: &str = "cards pack DIR | unpack DIR | print DIR | damage DIR FILE WAY .. \
-                     | random DIR SEED | largest DIR SEED | widest DIR SEED";
+                     | random DIR SEED | largest DIR SEED | widest DIR SEED [declared]";
 
 fn netlist_path(folder: &Path) -> PathBuf {
     folder.join("lane.lcn")
@@ -93,7 +95,16 @@ fn seeded(seed: &str) -> Result<Random, Mistake> {
     }
 }
 
-fn store_card(folder: &Path, netlist: Vec<u8>, list: Vec<u8>) -> Result<(), Mistake> {
+/// The version that the words after the seed ask for.
+fn version_of(words: &[&str]) -> Result<Version, Mistake> {
+    match words {
+        [] => Ok(Version::One),
+        ["declared"] => Ok(Version::Two),
+        _ => Err(USAGE.to_string()),
+    }
+}
+
+fn store_card(folder: &Path, (netlist, list): (Vec<u8>, Vec<u8>)) -> Result<(), Mistake> {
     let files = Files {
         netlist: Some(netlist),
         list: Some(list),
@@ -101,33 +112,32 @@ fn store_card(folder: &Path, netlist: Vec<u8>, list: Vec<u8>) -> Result<(), Mist
     store_both(folder, &files)
 }
 
-fn random_folder(folder: &Path, seed: &str) -> Result<(), Mistake> {
+fn random_folder(folder: &Path, seed: &str, version: Version) -> Result<(), Mistake> {
     let mut random = seeded(seed)?;
     let card = random::any_card(&mut random);
     let count = random.pick(&[0, 1, 2, 5, 30]);
-    let (mut netlist, mut list) = random::files(&mut random, &card, count);
+    let (mut netlist, mut list) = random::files_of(&mut random, &card, version, count);
     if seed.ends_with(['1', '5', '9']) {
         random::damage_netlist(&mut random, &card, &mut netlist);
     }
     if seed.ends_with(['3', '7', '9']) {
-        random::damage_list(&mut random, card.inputs, &mut list);
+        random::damage_list(&mut random, &card, &mut list);
     }
-    store_card(folder, netlist, list)
+    store_card(folder, (netlist, list))
 }
 
-fn largest_folder(folder: &Path, seed: &str) -> Result<(), Mistake> {
+fn largest_folder(folder: &Path, seed: &str, version: Version) -> Result<(), Mistake> {
     let mut random = seeded(seed)?;
     let shape = Shape::TwoLevel;
     let card = random::card(&mut random, shape, MAX_INPUTS, MAX_GATES, MAX_OUTPUTS);
-    let (netlist, list) = random::files(&mut random, &card, MAX_CHANGES);
-    store_card(folder, netlist, list)
+    let count = version.max_changes();
+    store_card(folder, random::files_of(&mut random, &card, version, count))
 }
 
-fn widest_folder(folder: &Path, seed: &str) -> Result<(), Mistake> {
+fn widest_folder(folder: &Path, seed: &str, version: Version) -> Result<(), Mistake> {
     let mut random = seeded(seed)?;
     let card = random::widest_card(&mut random);
-    let (netlist, list) = random::files(&mut random, &card, 3);
-    store_card(folder, netlist, list)
+    store_card(folder, random::files_of(&mut random, &card, version, 3))
 }
 
 fn run(words: &[&str]) -> Result<(), Mistake> {
@@ -138,9 +148,15 @@ fn run(words: &[&str]) -> Result<(), Mistake> {
             Ok(())
         }
         ["print", folder] => print_folder(Path::new(folder)),
-        ["random", folder, seed] => random_folder(Path::new(folder), seed),
-        ["largest", folder, seed] => largest_folder(Path::new(folder), seed),
-        ["widest", folder, seed] => widest_folder(Path::new(folder), seed),
+        ["random", folder, seed, version @ ..] => {
+            random_folder(Path::new(folder), seed, version_of(version)?)
+        }
+        ["largest", folder, seed, version @ ..] => {
+            largest_folder(Path::new(folder), seed, version_of(version)?)
+        }
+        ["widest", folder, seed, version @ ..] => {
+            widest_folder(Path::new(folder), seed, version_of(version)?)
+        }
         ["damage", folder, file, way @ ..] => damage_folder(Path::new(folder), file, way),
         _ => Err(USAGE.to_string()),
     }
