@@ -1,4 +1,5 @@
 // Every change of a list in one call: the card and its list are checked and decoded once, then all changes are judged.
+#![tactic(auto)]
 ghost use Rattle.std.specs.Prelude.{◌≡◌, ◌+◌, ◌*◌, ◌≤◌, length, replicate};
 ghost use Rattle.changes.specs.Lent.{signals_for};
 ghost use Rattle.lists.specs.Methods.{full_of, forward_of, core_of};
@@ -11,7 +12,7 @@ use netlist::Shape;
 use words::word_at;
 
 // What to find out of each change.
-#[derive(Drop)]
+#[derive(Clone, Copy)]
 enum Analysis {
     Full,
     Forward,

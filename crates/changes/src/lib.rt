@@ -1,4 +1,5 @@
 // Change lists: the check against a netlist with its refusals.
+#![tactic(auto)]
 ghost use Rattle.std.specs.Prelude.{◌≡◌, ◌+◌, ◌*◌, ◌^◌, ◌≤◌, ◌<◌, length};
 ghost use Rattle.words.specs.Words.{byte_at};
 ghost use Rattle.netlist.specs.Decoded.{decoded};
@@ -10,7 +11,7 @@ use netlist::{Checked, Shape};
 use words::{long_at, word_at};
 
 // How the changes of a list lie in its bytes: its version, the bytes of a vector, and those of a row of declared ends, none in version 1.
-#[derive(Drop)]
+#[derive(Clone, Copy)]
 pub struct Layout {
     pub version: usize,
     pub width: usize,
@@ -18,7 +19,7 @@ pub struct Layout {
 }
 
 // What an accepted netlist and list give together: the netlist's shape, the number of changes and how they lie.
-#[derive(Drop)]
+#[derive(Clone, Copy)]
 pub struct Task {
     pub shape: Shape,
     pub changes: usize,

@@ -1,1 +1,2 @@
 // The three demands: statements in specs/, proofs in proofs/, no code that runs.
+#![tactic(auto)]

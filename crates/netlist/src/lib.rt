@@ -1,4 +1,5 @@
 // Card netlists: the check with its refusals, which decodes the card into rows on the way.
+#![tactic(auto)]
 ghost use Rattle.std.specs.Prelude.{◌≡◌, ◌+◌, ◌*◌, ◌≤◌, length};
 ghost use Rattle.words.specs.Words.{words_at};
 ghost use Rattle.making.specs.Making.{put_at};
@@ -10,7 +11,7 @@ use records::{Fit, Head};
 use words::{is_outside, word_at, word_in};
 
 // What an accepted netlist gives: the counts, the pins together and the place of the output entries.
-#[derive(Drop)]
+#[derive(Clone, Copy)]
 pub struct Shape {
     pub inputs: usize,
     pub gates: usize,
@@ -20,7 +21,7 @@ pub struct Shape {
 }
 
 // The answer of a check: the shape, or the number and place of a refusal.
-#[derive(Drop)]
+#[derive(Clone, Copy)]
 pub enum Checked {
     Accepted(Shape),
     Refused(u8, usize),

@@ -1,1 +1,2 @@
 // CORE, the search of one output: definition in specs/, theorems in proofs/.
+#![tactic(auto)]

@@ -1,1 +1,2 @@
 // What the program prints: definitions in specs/ and laws in proofs/, no code that runs.
+#![tactic(auto)]

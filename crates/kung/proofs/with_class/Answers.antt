@@ -1,4 +1,3 @@
--- `kung::with_class` meets its contract: a union with the set of one class. Assumes nothing.
 use mathlib.Core.Path.{◌∙◌, refl, sym, ap₂}
 use Prim.Native.Nat.{◌*◌, ◌%◌, ◌^◌}
 use native.Mathlib.Omega.{arith}
@@ -11,13 +10,9 @@ use Rattle.kung.specs.Tables.{tab}
 use Rattle.kung.proofs.Listed.{agree}
 use Rattle.kung.proofs.Unions.{set_of_or, set_of_has, one_class}
 use borrow.Author.Rules.{rules}
-use Rattle.kung.proofs.with_class.Statement.{statement}
-use Rattle.kung.proofs.with_class.Tie as tie
+use Rattle.kung.proofs.with_class.Goals as goal
 
-shl-result : tie.Need-overflow-shl-result
-shl-result c = search rules
-
-returns : tie.Need-returns
+pub returns : goal.returns
 unfolding of_code insert tab
 returns c =
     let m = c.args.set in
@@ -25,6 +20,3 @@ returns c =
     ap₂ bit_or (sym (set_of_has m (omega arith)))
     (agree (λ x. 1 * 2 ^ x % 256) (λ x. 2 ^ x) 8 refl k (omega arith) ∙ one_class k (omega arith))
     ∙ sym (set_of_or (has m) (same (get_or classes k c0)))
-
-pub with-class-spec : {M : Type 1} → statement M
-with-class-spec = tie.close (tie.spec shl-result returns)

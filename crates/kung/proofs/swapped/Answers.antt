@@ -1,4 +1,3 @@
--- `kung::swapped` meets its contract, by the list of its 256 values. Assumes nothing.
 use mathlib.Core.Path.{◌≡◌, refl}
 use mathlib.Core.Bool.{Bool, true, false}
 use Prim.Native.Nat.{ℕ, ◌*◌, ◌/◌, ◌%◌, ◌^◌, ◌<◌}
@@ -9,9 +8,10 @@ use Rattle.kung.specs.Sets.{set_of, has}
 use Rattle.kung.specs.Members.{swap_if}
 use Rattle.kung.specs.Tables.{tab}
 use Rattle.kung.proofs.Listed.{agree}
-use Rattle.kung.proofs.swapped.Statement.{statement}
-use Rattle.kung.proofs.swapped.Tie as tie
+use borrow.Author.Rules.{rules}
+use Rattle.kung.proofs.swapped.Goals as goal
 
+-- `kung::swapped` meets its contract, by the list of its 256 values. Assumes nothing.
 shifted : Bool → ℕ → ℕ
 shifted b m = bit_or (bit_and m 85 * 2 ^ bool_byte b % 18446744073709551616) (bit_and m 170 / 2 ^ bool_byte b)
 
@@ -24,9 +24,6 @@ low : (b : Bool) → bool_byte b < 64
 low true = omega arith
 low false = omega arith
 
-returns : tie.Need-returns
+pub returns : goal.returns
 unfolding shifted
 returns c = swaps c.args.inverted c.args.set c.requires
-
-pub swapped-spec : {M : Type 1} → statement M
-swapped-spec = tie.close (tie.spec (λ c. tt) (λ c. low c.args.inverted) (λ c. low c.args.inverted) returns)

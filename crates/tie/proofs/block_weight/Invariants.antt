@@ -1,0 +1,10 @@
+use Rattle.std.proofs.Common.{◌≡◌, ℕ, ◌+◌, ◌-◌, ◌*◌, ◌≤◌, List, get_or, ap, ◌∙◌, zero-add, arith, w16, Fits, rules}
+use Rattle.tie.proofs.Laws.{column_of, rows_from, rows_more, rows_end}
+use Rattle.tie.proofs.block_weight.Given as goal
+
+-- `block_weight`: the columns passed and what is left make the rows. Assumes nothing.
+abbrev pub invariant-loop-k : goal.invariant-loop-k
+invariant-loop-k l = (l.k ≤ 16) × (l.sum ≤ 65535 * l.k) × (rows_from l.s l.at 0 ≡ l.sum + rows_from l.s l.at l.k)
+
+abbrev pub decreases-loop-k : goal.decreases-loop-k
+decreases-loop-k l = 16 - l.k

@@ -1,0 +1,19 @@
+use Rattle.std.proofs.Common.{◌≡◌, ◌-◌, ◌≤◌, length, drop, sym, refl, ◌∙◌, arith, rules}
+use Rattle.tie.specs.Tie.{tie_from}
+use Rattle.tie.proofs.Laws.{tie_more, tie_end}
+use Rattle.tie.proofs.tie_from.Goals as goal
+
+pub loop-i-init : goal.loop-i-init
+loop-i-init c = (search rules, refl)
+
+pub overflow_cast-s : goal.overflow_cast-s
+overflow_cast-s c = omega (arith, c.type_inv.s c.loop-i.i)
+
+pub loop-i-preserved : goal.loop-i-preserved
+loop-i-preserved c =
+    let at = c in
+    let e = at.loop-i.invariant.1 ∙ tie_more at.loop-i.a at.loop-i.b at.args.s.now at.loop-i.i c.loop-i-test.true in
+    (search rules, rw (c.wrapping_add_u32-b.ensures, c.wrapping_add_u32-a.ensures) e)
+
+pub returns : goal.returns
+returns c = let at = c in sym (at.loop-i.invariant.1 ∙ tie_end at.loop-i.a at.loop-i.b at.args.s.now at.loop-i.i (omega arith))
