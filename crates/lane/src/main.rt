@@ -1,41 +1,58 @@
 // The program: reads a card and its list of changes, and writes what is printed, piece by piece. No contract can see what is read or written, so
 // that the files are these two and that each piece is written is left to tests/program.
 #![tactic(auto)]
-ghost use Rattle.io.specs.Counts.{IsPrefixLen};
+ghost use Rattle.std.specs.Prelude.{◌≡◌, ◌≤◌, length, take};
 
-use libc::{STDERR_FILENO, STDOUT_FILENO};
 use listing::Progress;
+use std::fs::File;
+use std::io::Read;
+use std::{fs, io};
+
+// The next bytes of an open file: none at its end, or where it cannot be read.
+fn read_some(file: &mut File, buffer: &mut [u8]) -> usize
+    ensures { result ≤ length buffer.new }
+{
+    match file.read(buffer) {
+        Ok(n) => n,
+        Err(_) => 0,
+    }
+}
 
 // Reads the first bytes of a file, as many as the buffer holds: none where it is missing or cannot be read.
-fn read_start(path: &[u8], buffer: &mut [u8]) -> usize
-    ensures { IsPrefixLen result buffer.new }
+fn read_start(rt: &HostRuntime, path: &str, buffer: &mut [u8]) -> usize
+    ensures bound { result ≤ length buffer.new }
+    ensures prefix { result ≡ length (take result buffer.new) }
 {
-    let fd = os::open_read(path);
-    if fd < 0 {
+    let Ok(mut file) = fs::open(rt, path) else {
         return 0;
+    };
+    let mut done = 0;
+    while done < buffer.len() {
+        let n = read_some(&mut file, &mut buffer[done..]);
+        if n == 0 {
+            break;
+        }
+        done += n;
     }
-    let n = io::read_full(fd, buffer);
-    libc::close(fd);
-    n
+    done
 }
 
 // A write that fails ends the program with a line on standard error, where it writes nothing else.
-fn main() {
-    let mut netlist = io::large_buffer();
-    let n = read_start(b"lane.lcn", &mut netlist);
-    let mut list = io::large_buffer();
-    let l = read_start(b"lane.lct", &mut list);
-    let mut buffer = io::large_buffer();
+fn main(rt: HostRuntime) -> io::Result<()> {
+    let mut netlist = [0u8; 65536];
+    let n = read_start(&rt, "lane.lcn", &mut netlist);
+    let mut list = [0u8; 65536];
+    let l = read_start(&rt, "lane.lct", &mut list);
+    let mut buffer = [0u8; 65536];
     let mut progress = Progress::Start;
     loop {
         let piece = listing::next_piece(&netlist[..n], &list[..l], progress, &mut buffer);
         let length = piece.length;
         if length == 0 {
-            return;
+            return Ok(());
         }
-        if !io::write_all(STDOUT_FILENO, &buffer[..length]) {
-            io::write_all(STDERR_FILENO, b"lane: cannot write\n");
-            return;
+        if rt.stdout().write_all(&buffer[..length]).is_err() {
+            return rt.stderr().write_all(b"lane: cannot write\n");
         }
         progress = piece.next;
     }

@@ -17,9 +17,9 @@ loop-i-preserved c =
     let weight = second.block_weight.ensures in
     let first = second in (
       search rules,
-      omega (arith, c.wrapping_add_u32-a.ensures),
-      omega (arith, second.wrapping_add_u32-b-in-loop-i.ensures),
-      rw (c.wrapping_add_u32-a.ensures, c.block_sum.ensures, second.wrapping_add_u32-b-in-loop-i.ensures, weight, first.wrapping_add_u32-b.ensures, first.times_64.ensures, d) e,
+      omega (arith, c.wrapping_add_u32-a.ensures.value),
+      omega (arith, second.wrapping_add_u32-b-in-loop-i.ensures.value),
+      rw (c.wrapping_add_u32-a.ensures.value, c.block_sum.ensures, second.wrapping_add_u32-b-in-loop-i.ensures.value, weight, first.wrapping_add_u32-b.ensures.value, first.times_64.ensures, d) e,
     )
 
 pub returns : goal.returns

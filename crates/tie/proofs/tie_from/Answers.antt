@@ -13,7 +13,7 @@ pub loop-i-preserved : goal.loop-i-preserved
 loop-i-preserved c =
     let at = c in
     let e = at.loop-i.invariant.1 ∙ tie_more at.loop-i.a at.loop-i.b at.args.s.now at.loop-i.i c.loop-i-test.true in
-    (search rules, rw (c.wrapping_add_u32-b.ensures, c.wrapping_add_u32-a.ensures) e)
+    (search rules, rw (c.wrapping_add_u32-b.ensures.value, c.wrapping_add_u32-a.ensures.value) e)
 
 pub returns : goal.returns
 returns c = let at = c in sym (at.loop-i.invariant.1 ∙ tie_end at.loop-i.a at.loop-i.b at.args.s.now at.loop-i.i (omega arith))

@@ -17,9 +17,9 @@ returns c =
     (doubled 4 a _ _
     (doubled 2 a _ _
     (doubled 1 a a _ (omega arith)
-    two.wrapping_add_u32-two.ensures)
-    four.wrapping_add_u32-four.ensures)
-    eight.wrapping_add_u32-eight.ensures)
-    sixteen.wrapping_add_u32-sixteen.ensures)
-    thirty_two.wrapping_add_u32-thirty_two.ensures)
-    c.wrapping_add_u32.ensures
+    two.wrapping_add_u32-two.ensures.value)
+    four.wrapping_add_u32-four.ensures.value)
+    eight.wrapping_add_u32-eight.ensures.value)
+    sixteen.wrapping_add_u32-sixteen.ensures.value)
+    thirty_two.wrapping_add_u32-thirty_two.ensures.value)
+    c.wrapping_add_u32.ensures.value
