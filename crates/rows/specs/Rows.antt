@@ -5,7 +5,7 @@ use Rattle.kung.specs.Rule.{Kind, NOT, BUFFER, AND, OR, NAND, NOR}
 use Rattle.kung.specs.Operation.{op_of, op_code, inverts}
 use Rattle.kung.specs.Sets.{bit}
 use Rattle.kung.specs.Tables.{tab}
-use Rattle.circuit.specs.Circuit.{gate, Card}
+use Rattle.circuit.specs.Circuit.{Card}
 
 -- a gate's word: its operation as a number (0 AND, 1 OR), 2 more where it inverts, and four times its number of pins
 unfoldable pub word_for : Kind → (count : ℕ) → ℕ

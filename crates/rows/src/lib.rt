@@ -1,5 +1,6 @@
 // A decoded card in lent numbers: readers of a gate's pins and word, and of an output's signal.
 #![tactic(auto)]
+
 ghost use Rattle.std.specs.Prelude.{◌≡◌, ◌+◌, ◌*◌, ◌≤◌, ◌<◌, length};
 ghost use Rattle.rows.specs.Rows.{pin_in, word_in, output_in};
 
