@@ -22,8 +22,8 @@ abbrev pub row_at : (repeated : Bool) → List ℕ → (at count : ℕ) → List
 row_at repeated s at count = eight_at s at count (past_of repeated s at count)
 
 -- the pins alone, and 0 past the last
-abbrev pub field_own : List ℕ → (at count : ℕ) → List ℕ
-field_own s at count = eight_at s at count 0
+abbrev pub own_at : List ℕ → (at count : ℕ) → List ℕ
+own_at s at count = eight_at s at count 0
 
 -- eight 1 and eight 0: of the eight from 8 - count on, the first `count` are 1
 unfoldable pub ones : List ℕ

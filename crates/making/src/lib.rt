@@ -1,5 +1,6 @@
 // How a gate's nine numbers are made from its record and kept.
 #![tactic(auto)]
+
 ghost use Rattle.std.specs.Prelude.{◌≡◌, cond, [], ◌∷◌, ◌++◌, ◌+◌, ◌*◌, ◌≤◌, eqb, ltb, length};
 ghost use Rattle.kung.specs.Rule.{each};
 ghost use Rattle.making.specs.Making.{eight_at, own_at, past_of, row_at, ones, put_at};

@@ -1,5 +1,6 @@
 // A netlist's records, one by one: what a kind byte means, and what is read of a record up to its pins.
 #![tactic(auto)]
+
 ghost use Rattle.std.specs.Prelude.{◌≡◌, ◌+◌, ◌≤◌, length};
 ghost use Rattle.records.specs.Records.{unfit};
 ghost use Rattle.records.specs.Meaning.{meaning_of, meaning_word, meaning_table};
