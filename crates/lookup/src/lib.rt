@@ -1,5 +1,6 @@
 // Joins and sets of classes, looked up in the constant tables, which are lent.
 #![tactic(auto)]
+
 ghost use Rattle.std.specs.Prelude.{◌≡◌, true, ◌+◌, ◌*◌, ◌/◌, ◌<◌, get_or};
 ghost use Rattle.kung.specs.Class.{code, of_code};
 ghost use Rattle.kung.specs.Operation.{join, op_at};

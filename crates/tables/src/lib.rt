@@ -1,5 +1,6 @@
 // The constant tables. A function that names a constant array builds it anew, so each is handed out once and lent to the functions of `lookup`.
 #![tactic(auto)]
+
 ghost use Rattle.std.specs.Prelude.{◌≡◌};
 ghost use Rattle.kung.specs.Lookup.{search_table};
 ghost use Rattle.kung.specs.Gates.{gate_table};

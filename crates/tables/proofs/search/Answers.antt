@@ -1,5 +1,3 @@
--- `tables::search` meets its contract. A row of images has a rule that takes unions to unions, so antt computes it by doubling; of the others it computes the
--- rule at each entry. Assumes nothing.
 use mathlib.Core.Path.{◌≡◌, refl, sym, ◌∙◌, ap}
 use mathlib.Core.Bool.{cond}
 use mathlib.Core.List.{List, ◌++◌}
@@ -17,9 +15,10 @@ use Rattle.kung.specs.Tables.{tab, image_rule, image_table, block_rule, half_set
 use Rattle.kung.specs.Lookup.{joined_by, ends_with, lookup_rule, lookup_table, search_table}
 use Rattle.kung.proofs.Unions.{image_or}
 use Rattle.tables.proofs.Doubled.{doubled, rows, tab_rows, by_unions}
-use Rattle.tables.proofs.search.Statement.{statement}
-use Rattle.tables.proofs.search.Tie as tie
+use Rattle.tables.proofs.search.Goals as goal
 
+-- `tables::search` meets its contract. A row of images has a rule that takes unions to unions, so antt computes it by doubling; of the others it computes the
+-- rule at each entry. Assumes nothing.
 -- row r has an operation and a class
 row_rule : ℕ → ℕ → ℕ
 row_rule r = image (op_at (r / 8)) (of_code r)
@@ -44,9 +43,6 @@ in_parts : search_table ≡ image_rows ++ lookup_table
 unfolding search_table
 in_parts = ap (λ l. l ++ lookup_table) by_rows
 
-returns : tie.Need-returns
+pub returns : goal.returns
 unfolding image_rows rows doubled row_rule lookup_table tab lookup_rule joined_by ends_with wanted_rule block_rule half_set preimage reach possible image only_code keep set_of has some each join join_all and_all or_all of_code
 returns c = refl ∙ sym in_parts
-
-pub search-spec : {M : Type 1} → statement M
-search-spec = tie.close (tie.spec returns)

@@ -1,4 +1,3 @@
--- `tables::gate_table` meets its contract: antt computes a gate's row by joining in one class after the other. Assumes nothing.
 use mathlib.Core.Path.{◌≡◌, refl, sym, ◌∙◌, ap}
 use mathlib.Core.Bool.{Bool, true, false, ◌||◌}
 use Prim.Native.Nat.{ℕ, ◌+◌, ◌*◌, ◌/◌, ◌%◌, ◌^◌, ◌<◌}
@@ -18,9 +17,9 @@ use Rattle.kung.proofs.Laws.{invert_invert}
 use Rattle.kung.proofs.SetLaws.{has_set_of, join_more, lowest_one}
 use Rattle.kung.proofs.Unions.{has_or, one_class}
 use Rattle.tables.proofs.Doubled.{Doubles, doubled, rows, tab_rows}
-use Rattle.tables.proofs.gate_table.Statement.{statement}
-use Rattle.tables.proofs.gate_table.Tie as tie
+use Rattle.tables.proofs.gate_table.Goals as goal
 
+-- `tables::gate_table` meets its contract: antt computes a gate's row by joining in one class after the other. Assumes nothing.
 -- bit j joins in the class of code j
 has_more : (j m : ℕ) → j < 8 → m < 2 ^ j → (x : Class) → has (2 ^ j + m) x ≡ (has m x || same (get_or classes j c0) x)
 has_more j m low h x =
@@ -61,9 +60,6 @@ by_rows : gate_table ≡ rows (λ r. doubled (step r) (row_rule r 0) 8) 0 4
 unfolding gate_table
 by_rows = tab_rows 8 gate_rule row_rule step in_row steps 4 0
 
-returns : tie.Need-returns
+pub returns : goal.returns
 unfolding rows doubled step row_rule insert set_of count_trailing_zeros gate_at join join_all and_all or_all each some has keep of_code
 returns c = refl ∙ sym by_rows
-
-pub gate-table-spec : {M : Type 1} → statement M
-gate-table-spec = tie.close (tie.spec returns)

@@ -1,0 +1,14 @@
+use mathlib.Core.Path.{◌∙◌, ap}
+use Prim.Native.Nat.{◌+◌, ◌-◌, ◌*◌}
+use lib.Bits.{bit_or}
+use lib.ListN.{get_or}
+use Rattle.lookup.proofs.Lookups.{stop_at}
+use Rattle.lookup.proofs.stop_bits.Goals as goal
+
+-- `lookup::stop_bits` meets its contract. Assumes nothing.
+pub returns : goal.returns
+returns c =
+    let s = c in
+    let a = s.args in
+    ap (bit_or (255 - a.reach)) (c.number_at.ensures ∙ ap (λ t. get_or t (4096 + 136 + a.waiter * 4 + a.gate) 0) s.requires.0)
+    ∙ stop_at a.waiter a.gate a.reach s.requires.1 s.requires.2 s.requires.3
