@@ -1,5 +1,6 @@
 // The program's lines, appended to a lent buffer. Each function returns the place after what it wrote.
 #![tactic(auto)]
+
 ghost use Rattle.std.specs.Prelude.{◌≡◌, [], ◌∷◌, ◌++◌, ◌+◌, ◌%◌, ◌≤◌, ◌<◌, length};
 ghost use Rattle.kung.specs.Class.{of_code, name_of};
 ghost use Rattle.report.specs.Text.{decimal, counts_line, verdict_word, refusal_line};
