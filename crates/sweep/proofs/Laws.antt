@@ -1,5 +1,5 @@
 -- Laws of the gate pass. Assumes nothing.
-use Prim.Native.Nat.{ℕ, zero, suc, ◌+◌, ◌-◌, ◌≤◌, ◌<◌}
+use Prim.Native.Nat.{ℕ, zero, suc, ◌+◌, ◌≤◌, ◌<◌}
 use native.Mathlib.Omega.{arith}
 use native.Mathlib.Nat.{add-zero}
 use mathlib.Core.Path.{◌≡◌, refl, sym, ◌∙◌, ap, ap₂}
@@ -104,7 +104,7 @@ module _ (rows buffer : List ℕ) (inputs gates : ℕ) where
   codes_at : (n m x : ℕ) → x < n → n ≤ m → get_or (codes_to m) x 0 ≡ code (classes_to n x)
   unfolding codes_of
   codes_at n m x h l =
-      ListN.get_d_map code (values gate_class c0 (sources_in rows buffer inputs gates) m) x c0
+      ListN.get_or-map code (values gate_class c0 (sources_in rows buffer inputs gates) m) x c0
       ∙ ap code (values_at gate_class c0 (sources_in rows buffer inputs gates) m x (omega arith)
       ∙ sym (values_at gate_class c0 (sources_in rows buffer inputs gates) n x h))
 

@@ -1,5 +1,6 @@
 // The gate pass over a decoded card: the waveform class of each signal from the inputs' classes.
 #![tactic(auto)]
+
 ghost use Rattle.std.specs.Prelude.{◌≡◌, ◌||◌, ◌++◌, ◌≤◌, length, take, drop};
 ghost use Rattle.kung.specs.Class.{c0, c1};
 ghost use Rattle.kung.specs.Sets.{bit, has};
