@@ -5,7 +5,7 @@ use mathlib.Core.Bool.{Bool, true, false}
 use Rattle.kung.specs.Class.{clean, input_class}
 use Rattle.circuit.specs.Circuit.{Card, WellFormed}
 use Rattle.circuit.proofs.Ends.{settled_input, class_input, start_is, end_is}
-use Rattle.circuit.specs.Settled.{settled, class_of}
+use Rattle.circuit.specs.Settled.{class_of}
 use Rattle.bench.specs.Bench.{needs}
 use Rattle.bench.proofs.Flips.{alter}
 use Rattle.bench.proofs.Clean.{need}
