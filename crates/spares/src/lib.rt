@@ -1,5 +1,6 @@
 // The spare bits of a change list's vectors and rows.
 #![tactic(auto)]
+
 ghost use Rattle.std.specs.Prelude.{◌≡◌, ◌+◌, ◌*◌, ◌^◌, ◌≤◌, ◌<◌, length};
 ghost use Rattle.words.specs.Words.{byte_at};
 ghost use Rattle.spares.specs.Spares.{width_of, size_of, spare_pair, first_spare};
