@@ -9,7 +9,6 @@ use Rattle.netlist.specs.Decoded.{decoded_by}
 use Rattle.netlist.proofs.Refusals.{counts_inputs, counts_gates, counts_outputs, counts_pass, body_within_lem}
 use Rattle.netlist.proofs.Passing.{body_late}
 use Rattle.netlist.proofs.Keeping.{decoded_early, decoded_late}
-use borrow.Author.Rules.{rules}
 use Rattle.netlist.proofs.check_counts.Goals.{Else-is_outside, Else-is_outside-2}
 use Rattle.netlist.proofs.check_counts.Goals as goal
 
@@ -23,18 +22,18 @@ gates_in_lem c = outside_read 0 2048 c.word_at-2.ensures c.is_outside-2.ensures 
 pub returns-then-is_outside : goal.returns-then-is_outside
 returns-then-is_outside c =
     let e = counts_inputs _ _ (outside_read 1 256 c.word_at.ensures c.is_outside.ensures c.if-is_outside.true) in
-    record { value = sym e; rows_after = sym (decoded_early _ _ _ _ (omega arith) e); }
+    record { value = sym e; rows_after = sym (decoded_early _ _ _ _ (omega arith) e) }
 
 pub returns-then-is_outside-2 : goal.returns-then-is_outside-2
 returns-then-is_outside-2 c =
     let e = counts_gates _ _ (inputs_in (goal.at.returns-then-is_outside-2 c).Else-is_outside) (outside_read 0 2048 c.word_at-2.ensures c.is_outside-2.ensures c.if-is_outside-2.true) in
-    record { value = sym e; rows_after = sym (decoded_early _ _ _ _ (omega arith) e); }
+    record { value = sym e; rows_after = sym (decoded_early _ _ _ _ (omega arith) e) }
 
 pub returns-then-is_outside-3 : goal.returns-then-is_outside-3
 returns-then-is_outside-3 c =
     let o = outside_read 1 64 c.word_at-3.ensures c.is_outside-3.ensures c.if-is_outside-3.true in
     let e = counts_outputs _ _ (inputs_in (goal.at.returns-then-is_outside-3 c).Else-is_outside) (gates_in_lem (goal.at.returns-then-is_outside-3 c).Else-is_outside-2) o in
-    record { value = sym e; rows_after = sym (decoded_early _ _ _ _ (omega arith) e); }
+    record { value = sym e; rows_after = sym (decoded_early _ _ _ _ (omega arith) e) }
 
 pub check_records-requires : goal.check_records-requires
 check_records-requires c =

@@ -1,13 +1,7 @@
-use Prim.Native.Nat.{◌+◌, ◌-◌, ◌*◌, ◌/◌, ◌≤◌}
 use native.Mathlib.Omega.{arith}
-use mathlib.Core.Path.{◌≡◌, ◌∙◌, sym}
+use mathlib.Core.Path.{◌∙◌, sym}
 use borrow.Author.Tests.{lt-ltb, le-ltb}
-use lib.Dec.{ltb}
-use lib.ListN.{length}
-use Rattle.words.specs.Refusal.{refuse}
 use Rattle.words.proofs.Refusal.{stop, pass}
-use Rattle.netlist.specs.declared.Checked.TheVariants.{Refused}
-use Rattle.netlist.specs.Netlist.{outputs, accepted, words_below}
 use Rattle.netlist.proofs.Laws.{pins_room, pins_read}
 use Rattle.netlist.proofs.Refusals.{accepted_read, outputs_cut, outputs_start, words_stop, words_more, words_end}
 use Rattle.netlist.proofs.Keeping.{kept_refused, kept_read}
@@ -17,7 +11,7 @@ use Rattle.netlist.proofs.check_outputs.Goals as goal
 pub returns-then-s-end : goal.returns-then-s-end
 returns-then-s-end c =
     let e = outputs_cut _ _ _ _ c.word_at-outputs.ensures c.requires.0 c.if-s-end.true in
-    record { value = sym e; rows_after = sym (kept_refused _ _ _ e); }
+    record { value = sym e; rows_after = sym (kept_refused _ _ _ e) }
 
 pub loop-k-init : goal.loop-k-init
 loop-k-init c =
@@ -28,7 +22,7 @@ loop-k-init c =
 pub returns-then-inputs-gates : goal.returns-then-inputs-gates
 returns-then-inputs-gates c =
     let e = c.loop-k.invariant.1 ∙ words_stop _ _ _ _ _ _ _ c.loop-k-test.true c.word_in.ensures c.if-inputs-gates.true in
-    record { value = sym e; rows_after = sym (kept_refused _ _ _ e); }
+    record { value = sym e; rows_after = sym (kept_refused _ _ _ e) }
 
 pub loop-k-preserved : goal.loop-k-preserved
 loop-k-preserved c = (search rules, c.loop-k.invariant.1 ∙ words_more _ _ _ _ _ _ _ c.loop-k-test.true c.word_in.ensures c.if-inputs-gates.false)
@@ -42,7 +36,7 @@ overflow_sub-result-else-end-s c = omega (arith, pins_room c.args.s.now c.word_a
 pub returns-then-end-s : goal.returns-then-end-s
 returns-then-end-s c =
     let e = c.loop-k.invariant.1 ∙ words_end _ _ _ _ _ _ _ c.loop-k-test.false ∙ stop _ _ _ _ _ (lt-ltb _ _ c.if-end-s.true) in
-    record { value = sym e; rows_after = sym (kept_refused _ _ _ e); }
+    record { value = sym e; rows_after = sym (kept_refused _ _ _ e) }
 
 pub returns-else-end-s : goal.returns-else-end-s
 returns-else-end-s c =

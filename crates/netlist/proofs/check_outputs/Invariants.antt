@@ -1,16 +1,10 @@
-use Prim.Native.Nat.{◌+◌, ◌-◌, ◌*◌, ◌/◌, ◌≤◌}
-use native.Mathlib.Omega.{arith}
-use mathlib.Core.Path.{◌≡◌, ◌∙◌, sym}
-use borrow.Author.Tests.{lt-ltb, le-ltb}
+use Prim.Native.Nat.{◌+◌, ◌-◌, ◌*◌, ◌≤◌}
+use mathlib.Core.Path.{◌≡◌}
 use lib.Dec.{ltb}
 use lib.ListN.{length}
 use Rattle.words.specs.Refusal.{refuse}
-use Rattle.words.proofs.Refusal.{stop, pass}
 use Rattle.netlist.specs.declared.Checked.TheVariants.{Refused}
 use Rattle.netlist.specs.Netlist.{outputs, accepted, words_below}
-use Rattle.netlist.proofs.Laws.{pins_room, pins_read}
-use Rattle.netlist.proofs.Refusals.{accepted_read, outputs_cut, outputs_start, words_stop, words_more, words_end}
-use Rattle.netlist.proofs.Keeping.{kept_refused, kept_read}
 use Rattle.netlist.proofs.check_outputs.Given as goal
 
 -- `check_outputs`: what is left of the entries is the whole of what follows the records. Assumes nothing.

@@ -14,14 +14,14 @@ use Rattle.records.specs.Reading.{head_at}
 use Rattle.records.proofs.Heads.{HeadTold, head_told, fit_head}
 use Rattle.netlist.specs.declared.Checked.{Checked}
 use Rattle.netlist.specs.declared.Checked.TheVariants.{Refused}
-use Rattle.netlist.specs.Netlist.{inputs_of, gates_of, record_at, words_below, body}
+use Rattle.netlist.specs.Netlist.{inputs_of, gates_of, record_at, body}
 use Rattle.netlist.specs.Decoded.{rows_from, with_outputs}
 use Rattle.netlist.proofs.Refusals.{words_stop, words_more, words_end}
 use Rattle.netlist.proofs.Heads.{record_refused, record_pins}
 use Rattle.netlist.proofs.Passing.{fits_not}
 use Rattle.netlist.proofs.Keeping.{kept_refused}
 use Rattle.netlist.proofs.Together.{all_passed}
-use Rattle.netlist.proofs.Reached.{Reached, reached_first, reached_last, reached_own, reached_unfit, reached_next, row_read}
+use Rattle.netlist.proofs.Reached.{reached_first, reached_last, reached_own, reached_unfit, reached_next, row_read}
 use Rattle.netlist.proofs.check_records.Goals.{Else-signal-signals, In-Pins, In-Pins-head_at}
 use Rattle.netlist.proofs.check_records.Goals as goal
 
@@ -162,11 +162,11 @@ returns-then-signal-signals c =
 pub returns-in-Refused : goal.returns-in-Refused
 returns-in-Refused c =
     let r = refused (goal.at.returns-in-Refused c).Else-signal-signals _ _ (λ next. record_refused _ _ _ next (sym c.head_at.ensures ∙ c.in-Refused.is)) in
-    record { value = r.0; rows_after = r.1; }
+    record { value = r.0; rows_after = r.1 }
 
 pub returns-then-signal-word_in : goal.returns-then-signal-word_in
 returns-then-signal-word_in c =
     let r =
-        refused (goal.at.returns-then-signal-word_in c).Else-signal-signals _ _
-        (λ next. c.pins.invariant next ∙ words_stop _ _ _ _ _ _ _ c.if-count-k.false c.word_in.ensures c.if-signal-word_in.true) in
-    record { value = r.0; rows_after = r.1; }
+    refused (goal.at.returns-then-signal-word_in c).Else-signal-signals _ _
+    (λ next. c.pins.invariant next ∙ words_stop _ _ _ _ _ _ _ c.if-count-k.false c.word_in.ensures c.if-signal-word_in.true) in
+    record { value = r.0; rows_after = r.1 }

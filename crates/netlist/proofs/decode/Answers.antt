@@ -7,7 +7,6 @@ use Rattle.netlist.specs.Netlist.{checked, checked_within}
 use Rattle.netlist.specs.Decoded.{decoded_by, decoded}
 use Rattle.netlist.proofs.Refusals.{opening_short, opening_mark, opening_version, opening_pass}
 use Rattle.netlist.proofs.Keeping.{decoded_early}
-use borrow.Author.Rules.{rules}
 use Rattle.netlist.proofs.decode.Goals.{Else-not-is_marked}
 use Rattle.netlist.proofs.decode.Goals as goal
 
@@ -19,20 +18,20 @@ pub returns-then-s-lt11 : goal.returns-then-s-lt11
 unfolding checked checked_within decoded
 returns-then-s-lt11 c =
     let e = opening_short _ _ _ c.if-s-lt11.true in
-    record { value = sym e; rows_after = sym (decoded_early _ _ _ _ (omega arith) e); }
+    record { value = sym e; rows_after = sym (decoded_early _ _ _ _ (omega arith) e) }
 
 pub returns-then-not-is_marked : goal.returns-then-not-is_marked
 unfolding checked checked_within decoded
 returns-then-not-is_marked c =
     let e = opening_mark _ _ _ c.if-s-lt11.false (sym c.is_marked.ensures ∙ c.if-not-is_marked.true) in
-    record { value = sym e; rows_after = sym (decoded_early _ _ _ _ (omega arith) e); }
+    record { value = sym e; rows_after = sym (decoded_early _ _ _ _ (omega arith) e) }
 
 pub returns-then-word_at-ne1 : goal.returns-then-word_at-ne1
 unfolding checked checked_within decoded
 returns-then-word_at-ne1 c =
     let long = c.if-s-lt11.false in
     let e = opening_version _ _ _ long (marked_in (goal.at.returns-then-word_at-ne1 c).Else-not-is_marked) (λ e. c.if-word_at-ne1.true (c.word_at.ensures ∙ e)) in
-    record { value = sym e; rows_after = sym (decoded_early _ _ _ _ (omega arith) e); }
+    record { value = sym e; rows_after = sym (decoded_early _ _ _ _ (omega arith) e) }
 
 pub returns : goal.returns
 unfolding checked checked_within decoded

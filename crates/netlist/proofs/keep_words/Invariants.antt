@@ -1,12 +1,7 @@
-use Prim.Native.Nat.{ℕ, ◌-◌, ◌≤◌}
-use native.Mathlib.Omega.{arith}
-use mathlib.Core.Path.{◌≡◌, sym, ◌∙◌, ap}
-use mathlib.Core.List.{List}
-use lib.ListN.{length}
-use lib.Seq.{paste, paste-zero, length-paste}
+use Prim.Native.Nat.{◌-◌, ◌≤◌}
+use mathlib.Core.Path.{◌≡◌}
+use lib.Seq.{paste}
 use Rattle.words.specs.Words.{words_at}
-use Rattle.words.proofs.Laws.{words_length, words_at_lem}
-use Rattle.making.proofs.Making.{put_out, paste_more, paste_end}
 use Rattle.netlist.proofs.keep_words.Given as goal
 
 -- `keep_words`: the words passed stand in their place. Assumes nothing.
