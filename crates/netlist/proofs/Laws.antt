@@ -4,7 +4,7 @@ use native.Mathlib.Omega.{arith}
 use native.Mathlib.Numerals.{add-one}
 use mathlib.Core.Path.{◌≡◌, refl}
 use mathlib.Core.List.{List}
-use Rattle.records.specs.Records.{count_at, past_record}
+use Rattle.records.specs.Records.{past_record}
 use Rattle.netlist.specs.Netlist.{gates_of, place_of, pins_below, pin_total, entries_at}
 
 -- the next record's place

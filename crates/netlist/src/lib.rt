@@ -1,5 +1,6 @@
 // Card netlists: the check with its refusals, which decodes the card into rows on the way.
 #![tactic(auto)]
+
 ghost use Rattle.std.specs.Prelude.{◌≡◌, ◌+◌, ◌*◌, ◌≤◌, length};
 ghost use Rattle.words.specs.Words.{words_at};
 ghost use Rattle.making.specs.Making.{put_at};
