@@ -1,5 +1,5 @@
 -- A card, and values that spread over it from the inputs, gate 0 first. Settled values (Bool) and classes are both such values.
-use Rattle.std.specs.Prelude.{ℕ, zero, suc, ◌+◌, ◌-◌, ◌<◌, Bool, true, false, cond, List, [], ◌∷◌, ◌++◌, map, ltb, get_or}
+use Rattle.std.specs.Prelude.{ℕ, zero, suc, ◌+◌, ◌-◌, ◌<◌, cond, List, [], ◌∷◌, ◌++◌, map, ltb, get_or}
 use Rattle.kung.specs.Rule.{Kind}
 
 -- Where a signal's value comes from: it is given (an input, or a gate whose value is known), or a gate makes it of its pins' drivers.
