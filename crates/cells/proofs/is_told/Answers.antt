@@ -4,7 +4,6 @@ use mathlib.Core.Bool.{Bool, true, false, cond}
 use lib.Dec.{leb, ltb}
 use native.Mathlib.Omega.{arith}
 use borrow.Author.Tests.{lt-ltb, le-ltb, le-leb, lt-leb, ltb-true, ltb-false}
-use borrow.Author.Rules.{rules}
 use Rattle.cells.proofs.is_told.Goals as goal
 
 -- `cells::is_told` meets its contract. Assumes nothing.

@@ -1,5 +1,4 @@
 use borrow.Author.Tests.{lt-ltb, le-ltb}
-use borrow.Author.Rules.{rules}
 use Rattle.cells.proofs.known_of.Goals as goal
 
 -- `cells::known_of` meets its contract. Assumes nothing.
