@@ -1,5 +1,6 @@
 // A signal's byte in a search: what it is on arrival and at a visit's end.
 #![tactic(auto)]
+
 ghost use Rattle.std.specs.Prelude.{◌≡◌, ◌+◌, ◌-◌, ◌/◌, ◌%◌, ◌≤◌, ◌<◌, ltb, length, get_or, set};
 ghost use Rattle.cells.specs.Codes.{begun_from, arrived_tally, known_mark, open_mark, mark_of};
 ghost use Rattle.cells.specs.Cells.{known_of, known_in, told_in};

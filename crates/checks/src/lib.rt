@@ -1,5 +1,6 @@
 // How a visit ends: the checks of a gate's possible set.
 #![tactic(auto)]
+
 ghost use Rattle.std.specs.Prelude.{◌≡◌, cond, ◌/◌, ◌<◌, eqb};
 ghost use Rattle.kung.specs.Class.{code, of_code};
 ghost use Rattle.kung.specs.Operation.{invert_if};

@@ -1,4 +1,3 @@
--- `checks::class_of` meets its contract. Assumes nothing.
 use mathlib.Core.Path.{◌≡◌, refl}
 use Prim.Native.Nat.{ℕ, zero, suc, ◌/◌, ◌%◌, ◌<◌}
 use native.Mathlib.Omega.{arith}
@@ -10,9 +9,9 @@ use Rattle.kung.specs.Rule.{invert}
 use Rattle.kung.specs.Operation.{invert_if}
 use Rattle.kung.specs.Tables.{tab}
 use Rattle.kung.proofs.Listed.{agree}
-use Rattle.checks.proofs.class_of.Statement.{statement}
-use Rattle.checks.proofs.class_of.Tie as tie
+use Rattle.checks.proofs.class_of.Goals as goal
 
+-- `checks::class_of` meets its contract. Assumes nothing.
 -- by the list of its eight values, for a gate that inverts and one that does not
 both : (v p : ℕ) → v < 2 → p < 8 → bit_xor p v ≡ code (invert_if (eqb v 1) (get_or classes p c0))
 unfolding tab
@@ -20,9 +19,6 @@ both zero p h l = agree (λ x. bit_xor x 0) (λ x. code (get_or classes x c0)) 8
 both (suc zero) p h l = agree (λ x. bit_xor x 1) (λ x. code (invert (get_or classes x c0))) 8 refl p l
 both (suc (suc v)) p h l = absurd (omega arith)
 
-returns : tie.Need-returns
+pub returns : goal.returns
 unfolding of_code
 returns c = both (c.args.gate / 2) (c.args.p % 8) (omega arith) (omega arith)
-
-pub class-of-spec : {M : Type 1} → statement M
-class-of-spec = tie.close (tie.spec returns)
