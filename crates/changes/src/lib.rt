@@ -1,5 +1,6 @@
 // Change lists: the check against a netlist with its refusals.
 #![tactic(auto)]
+
 ghost use Rattle.std.specs.Prelude.{◌≡◌, ◌+◌, ◌*◌, ◌^◌, ◌≤◌, ◌<◌, length};
 ghost use Rattle.words.specs.Words.{byte_at};
 ghost use Rattle.netlist.specs.Decoded.{decoded};
