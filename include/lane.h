@@ -1,7 +1,7 @@
 /*
  * lane.h - hazard verdicts for lane cards
  *
- * The functions of target/staticlib/liblanecard.a (`rt staticlib lanecard`),
+ * The functions of target/staticlib/liblanecard.a (`./build lanecard`),
  * for x86-64. Link with:  gcc -I include loader.c target/staticlib/liblanecard.a
  *
  * A card is a netlist (the contents of a file lane.lcn) and a change list
