@@ -1,6 +1,5 @@
 use mathlib.Core.Path.{sym, ap}
 use Rattle.walk.specs.Walk.{gates_in}
-use borrow.Author.Rules.{rules}
 use Rattle.walk.proofs.gates_in.Goals as goal
 
 -- `walk::gates_in` meets its contract. Assumes nothing.

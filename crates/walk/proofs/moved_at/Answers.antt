@@ -2,7 +2,6 @@ use mathlib.Core.Path.{sym, ◌∙◌, ap}
 use native.Mathlib.Omega.{arith}
 use Rattle.walk.specs.Walk.{moved_of}
 use Rattle.walk.proofs.Laws.{record_found}
-use borrow.Author.Rules.{rules}
 use Rattle.walk.proofs.moved_at.Goals as goal
 
 -- `walk::moved_at` meets its contract. Assumes nothing.

@@ -4,7 +4,6 @@ use native.Mathlib.Omega.{arith}
 use lib.ListN.{length}
 use Rattle.walk.specs.Walk.{part_of}
 use Rattle.walk.proofs.Laws.{record_found, whole_room}
-use borrow.Author.Rules.{rules}
 use Rattle.walk.proofs.part_at.Goals.{In-Whole}
 use Rattle.walk.proofs.part_at.Goals as goal
 

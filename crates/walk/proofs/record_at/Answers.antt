@@ -4,7 +4,6 @@ use native.Mathlib.Omega.{arith}
 use Rattle.records.specs.Records.{kind_at, count_at, unfit}
 use Rattle.walk.specs.declared.Found.TheVariants.{Whole}
 use Rattle.walk.proofs.Laws.{whole_cut, whole_refused, whole_is, found_none, found_no_record, found_record}
-use borrow.Author.Rules.{rules}
 use Rattle.walk.proofs.record_at.Goals.{After-is_unfit}
 use Rattle.walk.proofs.record_at.Goals as goal
 
