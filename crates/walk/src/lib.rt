@@ -1,6 +1,7 @@
 // The gate walk: it carries a lent netlist and hands back one gate record after the other. `record_at` does the reading, on plain
 // parameters; the functions over the struct take it apart and have no branch of their own.
 #![tactic(auto)]
+
 ghost use Rattle.std.specs.Prelude.{◌≡◌};
 ghost use Rattle.walk.specs.Walk.{found_at, part_of, moved_of, handed, stepped, gates_in, opened, walk_at, step_of, start_of};
 
