@@ -1,5 +1,6 @@
 // An input's class in a change: the codes of all inputs, from the two vectors of a change list.
 #![tactic(auto)]
+
 ghost use Rattle.std.specs.Prelude.{◌≡◌, ◌++◌, ◌+◌, ◌≤◌, ◌<◌, length, drop};
 ghost use Rattle.inputs.specs.Written.{input_codes, code_in, written};
 
