@@ -1,5 +1,6 @@
 // Full simulation: the waveform class of each signal for a change.
 #![tactic(auto)]
+
 ghost use Rattle.std.specs.Prelude.{◌≡◌, ◌+◌, ◌*◌, ◌≤◌, length};
 ghost use Rattle.changes.specs.Lent.{signals_for};
 ghost use Rattle.simulate.specs.Full.{full_answer, full_buffer};
