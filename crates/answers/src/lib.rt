@@ -1,5 +1,6 @@
 // The results of the operations as the static library's functions give them: a number and five words.
 #![tactic(auto)]
+
 ghost use Rattle.std.specs.Prelude.{◌≡◌};
 ghost use Rattle.answers.specs.Answers.{simulated_answer, cored_answer, forwarded_answer, judged_answer};
 

@@ -1,5 +1,6 @@
 // The results of checks and walks as the static library's functions give them: a number and five words.
 #![tactic(auto)]
+
 ghost use Rattle.std.specs.Prelude.{◌≡◌, [], ◌∷◌};
 ghost use Rattle.replies.specs.Replies.{netlist_answer, list_answer, start_answer, step_answer};
 
