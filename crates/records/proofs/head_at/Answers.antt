@@ -21,7 +21,7 @@ lent c = ap (λ (t : List ℕ). get_or t (kind_at c.args.s.now c.args.at) 0) c.r
 known : (c : Else-meaning-lt256) → no_kind (kind_at c.args.s.now c.args.at) ≡ false
 known c = let e = lent (goal.at.Else-meaning-lt256 c).Else-kind-gt7 in word_some _ c.if-kind-gt7.false (omega arith)
 
-judged : (c : After-is_outside) → 
+judged : (c : After-is_outside) →
     outside (least_pins (kind_at c.args.s.now c.args.at)) (most_pins (kind_at c.args.s.now c.args.at)) (count_at c.args.s.now c.args.at) ≡ c.is_outside.result
 judged c = sym (c.is_outside.ensures ∙ ap (λ (m : ℕ). outside (m / 16 % 16) (m / 256) (count_at c.args.s.now c.args.at)) (lent (goal.at.After-is_outside c).Else-kind-gt7) ∙ word_limits _ c.if-kind-gt7.false _ (known (goal.at.After-is_outside c).Else-meaning-lt256))
 
