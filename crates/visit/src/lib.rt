@@ -1,5 +1,6 @@
 // CORE's cycle of visits: the search of one signal.
 #![tactic(auto)]
+
 ghost use Rattle.std.specs.Prelude.{◌≡◌, cond, ◌+◌, ◌*◌, ◌/◌, ◌≤◌, ◌<◌, length, get_or};
 ghost use Rattle.kung.specs.Class.{of_code};
 ghost use Rattle.kung.specs.Operation.{op_at};
