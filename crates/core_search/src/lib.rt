@@ -1,5 +1,6 @@
 // CORE: the search of an output of a change.
 #![tactic(auto)]
+
 ghost use Rattle.std.specs.Prelude.{◌≡◌, ◌+◌, ◌*◌, ◌≤◌, length, replicate};
 ghost use Rattle.changes.specs.Lent.{signals_for};
 ghost use Rattle.core_search.specs.Core.{core_answer};

@@ -1,5 +1,6 @@
 // The searches of all outputs of a change.
 #![tactic(auto)]
+
 ghost use Rattle.std.specs.Prelude.{◌≡◌, length};
 ghost use Rattle.changes.specs.Lent.{signals_of};
 ghost use Rattle.inputs.specs.Written.{written};

@@ -1,5 +1,6 @@
 // The wanted sets of the outputs in a change: the classes with which an output is clean.
 #![tactic(auto)]
+
 ghost use Rattle.std.specs.Prelude.{◌≡◌, ◌≤◌};
 ghost use Rattle.kung.specs.Class.{same};
 ghost use Rattle.kung.specs.Sets.{set_of};
