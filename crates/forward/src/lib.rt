@@ -1,5 +1,6 @@
 // The forward method: constants spread first, then a search for each output.
 #![tactic(auto)]
+
 ghost use Rattle.std.specs.Prelude.{◌≡◌, ◌+◌, ◌*◌, ◌≤◌, ◌++◌, length, drop};
 ghost use Rattle.kung.specs.Gates.{gate_table};
 ghost use Rattle.changes.specs.Lent.{signals_for};
