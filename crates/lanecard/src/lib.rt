@@ -1,5 +1,6 @@
 // The static library for loaders in C or Rust: include/lane.h documents each function.
 #![tactic(auto)]
+
 ghost use Rattle.std.specs.Prelude.{◌≡◌};
 ghost use Rattle.kung.specs.Class.{code, of_code};
 ghost use Rattle.kung.specs.Rule.{invert};
