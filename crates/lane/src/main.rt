@@ -1,6 +1,7 @@
 // The program: reads a card and its list of changes, and writes what is printed, piece by piece. No contract can see what is read or written, so
 // that the files are these two and that each piece is written is left to tests/program.
 #![tactic(auto)]
+
 ghost use Rattle.std.specs.Prelude.{◌≡◌, ◌≤◌, length, take};
 
 use listing::Progress;
