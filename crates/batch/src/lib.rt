@@ -1,5 +1,6 @@
 // Every change of a list in one call: the card and its list are checked and decoded once, then all changes are judged.
 #![tactic(auto)]
+
 ghost use Rattle.std.specs.Prelude.{◌≡◌, ◌+◌, ◌*◌, ◌≤◌, length, replicate};
 ghost use Rattle.changes.specs.Lent.{signals_for};
 ghost use Rattle.lists.specs.Methods.{full_of, forward_of, core_of};
