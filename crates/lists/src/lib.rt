@@ -1,5 +1,6 @@
 // The three loops over the changes of an accepted list, one for each method: its rows go into the buffer one after the other.
 #![tactic(auto)]
+
 ghost use Rattle.std.specs.Prelude.{◌≡◌, ◌*◌, ◌≤◌, true, length};
 ghost use Rattle.changes.specs.Lent.{Accepts, signals_of};
 ghost use Rattle.core_search.specs.Lent.{NoneKnown};
