@@ -1,5 +1,6 @@
 // What the lines of one change are made from, and the bytes of lines, in lent buffers.
 #![tactic(auto)]
+
 ghost use Rattle.std.specs.Prelude.{◌≡◌, ◌+◌, ◌*◌, ◌<◌, ◌≤◌, true, length};
 ghost use Rattle.kung.specs.Gates.{gate_table};
 ghost use Rattle.changes.specs.Lent.{Accepts, signals_of};
