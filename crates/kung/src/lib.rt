@@ -1,5 +1,6 @@
 // Kung's eight classes, and sets of them, as numbers. The search works with machine words: bytes would be widened at each look-up.
 #![tactic(auto)]
+
 ghost use Rattle.std.specs.Prelude.{◌≡◌, ◌<◌};
 ghost use Rattle.kung.specs.Class.{code, of_code};
 ghost use Rattle.kung.specs.Rule.{invert};

@@ -1,5 +1,6 @@
 // The tie, which binds a list of changes to its netlist: two running sums of the bytes, by blocks.
 #![tactic(auto)]
+
 ghost use Rattle.std.specs.Prelude.{◌≡◌, ◌+◌, ◌*◌, ◌%◌, ◌<◌, ◌≤◌, length, drop};
 ghost use Rattle.words.specs.Words.{byte_at};
 ghost use Rattle.tie.specs.Tie.{tie_from, tie_of};

@@ -1,5 +1,6 @@
 // What the files' bytes say: words of two and four bytes, the mark and ranges.
 #![tactic(auto)]
+
 ghost use Rattle.std.specs.Prelude.{◌≡◌, ◌+◌, ◌≤◌, length};
 ghost use Rattle.words.specs.Words.{byte_at, word_at, long_at, marked, outside};
 
