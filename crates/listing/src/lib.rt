@@ -1,5 +1,6 @@
 // What the program prints, a piece at a time in a lent buffer: the first line, then the lines of as many changes as have room.
 #![tactic(auto)]
+
 ghost use Rattle.std.specs.Prelude.{◌≡◌, ◌<◌, ◌≤◌, true, length};
 ghost use Rattle.changes.specs.Lent.{Accepts, signals_of};
 ghost use Rattle.outputs.specs.Lent.{OutputsReady};
