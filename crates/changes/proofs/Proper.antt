@@ -1,4 +1,4 @@
--- `listChecked` accepts exactly the proper lists, and its refusal is the first condition met. Assumes nothing.
+-- `list_checked` accepts exactly the proper lists, and its refusal is the first condition met. Assumes nothing.
 use Prim.Native.Nat.{ℕ, zero, suc, ◌+◌, ◌*◌, ◌<◌}
 use native.Mathlib.Omega.{arith}
 use native.Mathlib.Nat.{add-zero, zero-mul, suc-mul}

@@ -1,5 +1,5 @@
 -- Documents 01 and 02: what is asked of a change list's bytes, from "The change list" and "Job 1", and the list's conditions of "Turned back, by
--- operation" one after the other. `listChecked` accepts exactly the proper lists and refuses the others by the first condition met
+-- operation" one after the other. `list_checked` accepts exactly the proper lists and refuses the others by the first condition met
 -- (proofs/Proper.antt).
 use Rattle.std.specs.Prelude.{ℕ, zero, suc, ◌+◌, ◌*◌, ◌≤◌, ◌<◌, ◌≡◌, true, not, List, [], ◌∷◌, ◌++◌, ◌⊎◌, eqb, ltb, length}
 use Rattle.words.specs.Words.{long_at, marked, outside}

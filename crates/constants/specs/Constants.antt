@@ -70,7 +70,7 @@ module _ (src : ℕ → Source Class) where
   spread (suc n) s = constant_from (src s) (spread n)
 
   -- "until no gate's class follows from constant pins any more": as many rounds as there are signals. A pin names a signal below its own gate's, so
-  -- that another round changes nothing (`constants-stay`).
+  -- that another round changes nothing (`constants_stay`).
   abbrev pub constants : (signals : ℕ) → (s : ℕ) → Option Class
   constants signals = spread signals
 

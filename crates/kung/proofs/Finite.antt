@@ -1,8 +1,8 @@
 -- A fact about every class, operation or Boolean, by one test that antt computes. Assumes nothing.
 use mathlib.Core.Path.{◌≡◌, refl, sym, subst, ◌∙◌}
 use mathlib.Core.Bool.{Bool, true, false, not, ◌&&◌, ◌||◌, beq}
-use lib.Dec.{T, eqb, eqb→eq}
-use Rattle.kung.specs.Class.{Class, c0, c1, R, F, S0, S1, D+, D-, code, classes, of_code, same}
+use lib.Dec.{T, eqb→eq}
+use Rattle.kung.specs.Class.{Class, c0, c1, R, F, S0, S1, D+, D-, code, of_code, same}
 use Rattle.kung.specs.Operation.{Op, and, or}
 
 pub both_left : (a b : Bool) → T (a && b) → T a

@@ -3,7 +3,7 @@ use mathlib.Core.Path.{◌≡◌, refl, sym, ◌∙◌, ap}
 use mathlib.Core.Bool.{Bool, true, false, cond, not, ◌&&◌, ◌||◌, beq}
 use mathlib.Core.List.{List, [], ◌∷◌, map}
 use lib.Dec.{T}
-use Rattle.kung.specs.Class.{Class, c0, c1, R, F, classes, start, end, same}
+use Rattle.kung.specs.Class.{Class, c0, c1, R, F, start, end, same}
 use Rattle.kung.specs.Rule.{each, some, by_ends, and_all, or_all, invert, Kind, NOT, BUFFER, AND, OR, NAND, NOR, gate_class, gate_value}
 use Rattle.kung.specs.Operation.{Op, and, or, op_of, inverts, invert_if, join_all, join, unit, value_all, not_if}
 use Rattle.kung.proofs.Finite.{implies, implied, same→≡, every_class, every_op, every_bool, every_pair, class_at_lem, bool_at, pair_at, beq→≡}

@@ -1,5 +1,5 @@
 -- Document 01, "The eight classes": what a gate gives, by the written rule over all its pins.
-use Rattle.std.specs.Prelude.{ℕ, ◌-◌, Bool, true, false, cond, not, ◌&&◌, ◌||◌, List, [], ◌∷◌, map, get_or}
+use Rattle.std.specs.Prelude.{ℕ, Bool, true, false, cond, not, ◌&&◌, ◌||◌, List, [], ◌∷◌, map, get_or}
 use Rattle.kung.specs.Class.{Class, c0, c1, R, F, S0, S1, D+, D-, start, end, same}
 
 -- the test passes at each element; at some element

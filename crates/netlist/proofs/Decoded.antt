@@ -1,4 +1,4 @@
--- An accepted netlist's rows say what its bytes say: `decoded-rows`, and for the layers above `decoded-sources`. Assumes nothing.
+-- An accepted netlist's rows say what its bytes say: `decoded_rows`, and for the layers above `decoded_sources`. Assumes nothing.
 use Prim.Native.Nat.{ℕ, zero, suc, ◌+◌, ◌-◌, ◌*◌, ◌≤◌, ◌<◌}
 use native.Mathlib.Omega.{arith}
 use native.Mathlib.Nat.{add-zero, zero-add}

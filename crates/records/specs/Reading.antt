@@ -14,7 +14,7 @@ use Rattle.records.specs.declared.Fit.TheVariants as fit
 unfoldable pub word_of : List ℕ → (at : ℕ) → ℕ
 word_of s at = word_for (kind_of (kind_at s at)) (count_at s at)
 
--- a record up to its pins, with its gate's word: `recordAt` of `netlist` without them
+-- a record up to its pins, with its gate's word: `record_at` of `netlist` without them
 unfoldable pub head_at : List ℕ → (at : ℕ) → Head
 head_at s at =
     refuse Refused (ltb (length s) (at + 2)) 5 at

@@ -122,7 +122,7 @@ module _ (src : ℕ → Source Class) where
   take_pin visit x w wt cells = fetch visit x (driver_of (src x) (cell_at cells x)) w wt cells
 
   -- The gate of signal s, of kind d, with the pins left to take: "On arrival and after each pin a gate makes these checks [...]. Otherwise the next pin
-  -- is taken". The gate behind the pin is visited with the wanted set of `wantedFor`, and this gate waits for it. A pin counts as taken before that
+  -- is taken". The gate behind the pin is visited with the wanted set of `wanted_for`, and this gate waits for it. A pin counts as taken before that
   -- visit. Where no pin is left the possible set has one class, so that the checks end the visit.
   unfoldable pub take_pins : Visit → Kind → (s wanted : ℕ) → Waiting → (left : List ℕ) → Class → (next : ℕ) → List ℕ → Ended
   take_pins visit d s w wt [] p next cells =

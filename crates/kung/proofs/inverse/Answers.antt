@@ -7,7 +7,6 @@ use Rattle.kung.specs.Class.{c0, code, classes, of_code}
 use Rattle.kung.specs.Rule.{invert}
 use Rattle.kung.specs.Tables.{tab}
 use Rattle.kung.proofs.Listed.{agree}
-use borrow.Author.Rules.{rules}
 use Rattle.kung.proofs.inverse.Goals as goal
 
 -- `kung::inverse` meets its contract, by the list of its eight values. Assumes nothing.

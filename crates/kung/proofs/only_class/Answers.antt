@@ -10,7 +10,6 @@ use Rattle.kung.specs.Sets.{has}
 use Rattle.kung.specs.Members.{only_code, keep}
 use Rattle.kung.specs.Tables.{tab}
 use Rattle.kung.proofs.Listed.{agree}
-use borrow.Author.Rules.{rules}
 use Rattle.kung.proofs.only_class.Goals as goal
 
 -- `kung::only_class` meets its contract, by the list of its 256 values. Assumes nothing.

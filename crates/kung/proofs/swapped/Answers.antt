@@ -8,7 +8,6 @@ use Rattle.kung.specs.Sets.{set_of, has}
 use Rattle.kung.specs.Members.{swap_if}
 use Rattle.kung.specs.Tables.{tab}
 use Rattle.kung.proofs.Listed.{agree}
-use borrow.Author.Rules.{rules}
 use Rattle.kung.proofs.swapped.Goals as goal
 
 -- `kung::swapped` meets its contract, by the list of its 256 values. Assumes nothing.

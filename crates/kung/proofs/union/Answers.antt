@@ -4,7 +4,6 @@ use lib.Bits.{bit_or}
 use Rattle.kung.specs.Sets.{has}
 use Rattle.kung.specs.Gates.{unite}
 use Rattle.kung.proofs.Unions.{set_of_or, set_of_has}
-use borrow.Author.Rules.{rules}
 use Rattle.kung.proofs.union.Goals as goal
 
 -- `kung::union` meets its contract. Assumes nothing.

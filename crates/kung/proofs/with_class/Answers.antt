@@ -9,7 +9,6 @@ use Rattle.kung.specs.Members.{insert}
 use Rattle.kung.specs.Tables.{tab}
 use Rattle.kung.proofs.Listed.{agree}
 use Rattle.kung.proofs.Unions.{set_of_or, set_of_has, one_class}
-use borrow.Author.Rules.{rules}
 use Rattle.kung.proofs.with_class.Goals as goal
 
 pub returns : goal.returns

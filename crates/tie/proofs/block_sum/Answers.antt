@@ -1,5 +1,4 @@
-use Rattle.std.proofs.Common.{◌≡◌, ◌+◌, ◌-◌, ◌*◌, ◌≤◌, add-zero, zero-add, arith, rules}
-use Rattle.tie.specs.Blocks.{sum_at}
+use Rattle.std.proofs.Common.{◌+◌, add-zero, zero-add, arith, rules}
 use Rattle.tie.proofs.Laws.{sum_more, sum_end}
 use Rattle.tie.proofs.block_sum.Goals as goal
 

@@ -1,6 +1,5 @@
-use Rattle.std.proofs.Common.{◌≡◌, ◌+◌, ◌-◌, ◌*◌, ◌≤◌, add-zero, zero-add, arith, rules}
+use Rattle.std.proofs.Common.{◌≡◌, ◌+◌, ◌-◌, ◌*◌, ◌≤◌}
 use Rattle.tie.specs.Blocks.{sum_at}
-use Rattle.tie.proofs.Laws.{sum_more, sum_end}
 use Rattle.tie.proofs.block_sum.Given as goal
 
 -- `block_sum`: what is passed and what is left make the sum. Assumes nothing.

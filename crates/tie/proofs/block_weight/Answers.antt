@@ -1,5 +1,5 @@
-use Rattle.std.proofs.Common.{◌≡◌, ℕ, ◌+◌, ◌-◌, ◌*◌, ◌≤◌, List, get_or, ap, ◌∙◌, zero-add, arith, w16, Fits, rules}
-use Rattle.tie.proofs.Laws.{column_of, rows_from, rows_more, rows_end}
+use Rattle.std.proofs.Common.{◌≡◌, ℕ, List, get_or, ap, ◌∙◌, zero-add, arith, w16, Fits, rules}
+use Rattle.tie.proofs.Laws.{column_of, rows_more, rows_end}
 use Rattle.tie.proofs.block_weight.Goals as goal
 
 pub loop-k-init : goal.loop-k-init

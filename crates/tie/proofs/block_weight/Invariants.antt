@@ -1,5 +1,5 @@
-use Rattle.std.proofs.Common.{◌≡◌, ℕ, ◌+◌, ◌-◌, ◌*◌, ◌≤◌, List, get_or, ap, ◌∙◌, zero-add, arith, w16, Fits, rules}
-use Rattle.tie.proofs.Laws.{column_of, rows_from, rows_more, rows_end}
+use Rattle.std.proofs.Common.{◌≡◌, ◌+◌, ◌-◌, ◌*◌, ◌≤◌}
+use Rattle.tie.proofs.Laws.{rows_from}
 use Rattle.tie.proofs.block_weight.Given as goal
 
 -- `block_weight`: the columns passed and what is left make the rows. Assumes nothing.

@@ -1,5 +1,4 @@
-use Rattle.std.proofs.Common.{◌≡◌, ℕ, ◌-◌, ◌<◌, ◌≤◌, length, get_or, refl, ◌∙◌, arith, length-set, get_or-set_other, get_or-set_same, rules, below_more}
-use Rattle.tie.specs.Blocks.{column_at}
+use Rattle.std.proofs.Common.{refl, ◌∙◌, arith, length-set, get_or-set_other, get_or-set_same, rules, below_more}
 use Rattle.tie.proofs.Laws.{columns_all}
 use Rattle.tie.proofs.columns.Goals as goal
 

@@ -1,6 +1,5 @@
-use Rattle.std.proofs.Common.{◌≡◌, ℕ, ◌-◌, ◌<◌, ◌≤◌, length, get_or, refl, ◌∙◌, arith, length-set, get_or-set_other, get_or-set_same, rules, below_more}
+use Rattle.std.proofs.Common.{◌≡◌, ℕ, ◌-◌, ◌<◌, ◌≤◌, length, get_or}
 use Rattle.tie.specs.Blocks.{column_at}
-use Rattle.tie.proofs.Laws.{columns_all}
 use Rattle.tie.proofs.columns.Given as goal
 
 -- `columns`: the numbers passed are the columns. Assumes nothing.

@@ -1,5 +1,5 @@
-use Rattle.std.proofs.Common.{◌≡◌, ◌-◌, ◌*◌, ◌<◌, ◌≤◌, length, drop, sym, refl, ◌∙◌, arith, rules}
-use Rattle.tie.specs.Tie.{tie_from, tie_of}
+use Rattle.std.proofs.Common.{◌*◌, sym, refl, ◌∙◌, arith, rules}
+use Rattle.tie.specs.Tie.{tie_of}
 use Rattle.tie.specs.Blocks.{weight_at}
 use Rattle.tie.proofs.Laws.{tie_block, carried}
 use Rattle.tie.proofs.tie.Goals as goal

@@ -1,7 +1,5 @@
-use Rattle.std.proofs.Common.{◌≡◌, ◌-◌, ◌*◌, ◌<◌, ◌≤◌, length, drop, sym, refl, ◌∙◌, arith, rules}
+use Rattle.std.proofs.Common.{◌≡◌, ◌-◌, ◌<◌, ◌≤◌, length, drop}
 use Rattle.tie.specs.Tie.{tie_from, tie_of}
-use Rattle.tie.specs.Blocks.{weight_at}
-use Rattle.tie.proofs.Laws.{tie_block, carried}
 use Rattle.tie.proofs.tie.Given as goal
 
 -- `tie`: what is left of the tie is the whole tie. Assumes nothing.

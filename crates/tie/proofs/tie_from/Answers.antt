@@ -1,5 +1,4 @@
-use Rattle.std.proofs.Common.{◌≡◌, ◌-◌, ◌≤◌, length, drop, sym, refl, ◌∙◌, arith, rules}
-use Rattle.tie.specs.Tie.{tie_from}
+use Rattle.std.proofs.Common.{sym, refl, ◌∙◌, arith, rules}
 use Rattle.tie.proofs.Laws.{tie_more, tie_end}
 use Rattle.tie.proofs.tie_from.Goals as goal
 

@@ -1,6 +1,5 @@
-use Rattle.std.proofs.Common.{◌≡◌, ◌-◌, ◌≤◌, length, drop, sym, refl, ◌∙◌, arith, rules}
+use Rattle.std.proofs.Common.{◌≡◌, ◌-◌, ◌≤◌, length, drop}
 use Rattle.tie.specs.Tie.{tie_from}
-use Rattle.tie.proofs.Laws.{tie_more, tie_end}
 use Rattle.tie.proofs.tie_from.Given as goal
 
 -- `tie_from`: what is left of the tie is the whole tie. Assumes nothing.

@@ -1,4 +1,4 @@
-use Rattle.std.proofs.Common.{arith, rules}
+use Rattle.std.proofs.Common.{arith}
 use Rattle.tie.proofs.Laws.{doubled}
 use Rattle.tie.proofs.times_64.Goals as goal
 

@@ -1,6 +1,5 @@
 use mathlib.Core.Path.{sym}
 use Rattle.words.proofs.Laws.{outside_below, outside_above}
-use borrow.Author.Rules.{rules}
 use Rattle.words.proofs.is_outside.Goals as goal
 
 -- `is_outside`: below, then above. Assumes nothing.

@@ -2,7 +2,6 @@ use Prim.Native.Nat.{◌+◌}
 use native.Mathlib.Omega.{arith}
 use mathlib.Core.Path.{refl}
 use Rattle.words.specs.Words.{word_at}
-use borrow.Author.Rules.{rules}
 use Rattle.words.proofs.word_in.Goals as goal
 
 pub overflow_cast-result : goal.overflow_cast-result
