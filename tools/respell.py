@@ -15,10 +15,10 @@ CORE = "core_search"
 # A name as antt reads it: whatever stands between spaces, brackets and the signs of its own.
 TOKEN = re.compile(r"[^\s(){}\[\];,.λ⟦⟧«»:\"⌜⌝!]+")
 DECLARED = re.compile(r"^(\s*)(?:module _ )?((?:(?:pub|abbrev|unfoldable|pattern|data|record)\s+)*)([^\s(){}:;.]+)(?=(?:\s*\{[^}]*\})?(?:\s+\([^)]*\)|\s+\{[^}]*\})*\s*:(?:\s|$))", re.M)
-# words of the library that a lemma's name may join by a dash
 # where a lemma has a definition's name, or two names fall together
 TOGETHER = {"only_code": "only_code_lem", "no_kind": "no_kind_lem", "class-at": "class_at_lem", "walk-of": "walk_of_lem", "goesOn": "turn_goes_on"}
 IN_FILE = {"constants/proofs/Constants.antt": {"all_known": "all_known_lem"}}
+# words of the library that a lemma's name may join by a dash
 STD = set("length append drop take map get_or set cond not eqb ltb leb bit_and bit_or bit_xor le lt mod div mul add sub zero suc one all reverse sum".split())
 
 

@@ -17,29 +17,24 @@ version_is : (c : Else-not-is_marked) → outside 1 2 c.args.layout.version ≡ 
 version_is c = ap (λ y. outside 1 2 y.version) c.requires.2
 
 opened : (c : Else-long_at-tie) → (let a = c.args in Opened a.tie a.list.now)
-opened c =
-    let v = c in
-    let m = v in (
-      m.if-list-lt11.false,
-      marked_in (goal.at.Else-long_at-tie c).Else-not-is_marked,
-      sym (version_is (goal.at.Else-long_at-tie c).Else-not-is_marked) ∙ sym v.is_outside.ensures ∙ v.if-is_outside.false,
-      sym c.long_at.ensures ∙ c.if-long_at-tie.false,
-    )
+opened c = (
+  c.if-list-lt11.false,
+  marked_in (goal.at.Else-long_at-tie c).Else-not-is_marked,
+  sym (version_is (goal.at.Else-long_at-tie c).Else-not-is_marked) ∙ sym c.is_outside.ensures ∙ c.if-is_outside.false,
+  sym c.long_at.ensures ∙ c.if-long_at-tie.false,
+)
 
-few : (c : Else-most_changes-changes) → (let w = c in w.word_at-changes.result ≤ most_changes w.args.layout.version)
+few : (c : Else-most_changes-changes) → (c.word_at-changes.result ≤ most_changes c.args.layout.version)
 few c = rw c.most_changes.ensures at c.if-most_changes-changes.false
 
 -- so that a change's place is a small number
-high : (c : Else-most_changes-changes) → (let w = c in
-    let y = w.args.layout in
-    (y.width ≤ 32) × (y.row ≤ 8) × (w.word_at-changes.result * size_of y.width y.row ≤ 80000))
+high : (c : Else-most_changes-changes) → (let y = c.args.layout in
+    (y.width ≤ 32) × (y.row ≤ 8) × (c.word_at-changes.result * size_of y.width y.row ≤ 80000))
 high c =
-    let w = c in
-    let s = w in
-    let y = s.requires.2 in
-    let wide : s.args.layout.width ≤ 32 = omega (arith, ap (λ y. y.width) y, s.requires.0) in
-    let long : s.args.layout.row ≤ 8 = omega (arith, ap (λ y. y.row) y, declared_high (version_of s.args.list.now) s.args.outputs, s.requires.1) in
-    (wide, long, change_high _ _ _ wide long (omega (arith, few c, most_high s.args.layout.version)))
+    let y = c.requires.2 in
+    let wide : c.args.layout.width ≤ 32 = omega (arith, ap (λ y. y.width) y, c.requires.0) in
+    let long : c.args.layout.row ≤ 8 = omega (arith, ap (λ y. y.row) y, declared_high (version_of c.args.list.now) c.args.outputs, c.requires.1) in
+    (wide, long, change_high _ _ _ wide long (omega (arith, few c, most_high c.args.layout.version)))
 
 pub returns-then-list-lt11 : goal.returns-then-list-lt11
 returns-then-list-lt11 c = sym (list_short _ _ _ _ _ c.if-list-lt11.true)
@@ -49,21 +44,16 @@ returns-then-not-is_marked c = sym (list_mark _ _ _ _ _ c.if-list-lt11.false (sy
 
 pub returns-then-is_outside : goal.returns-then-is_outside
 returns-then-is_outside c =
-    let m = c in
-    sym (list_version _ _ _ _ _ m.if-list-lt11.false (marked_in (goal.at.returns-then-is_outside c).Else-not-is_marked) (sym (version_is (goal.at.returns-then-is_outside c).Else-not-is_marked) ∙ sym c.is_outside.ensures ∙ c.if-is_outside.true))
+    sym (list_version _ _ _ _ _ c.if-list-lt11.false (marked_in (goal.at.returns-then-is_outside c).Else-not-is_marked) (sym (version_is (goal.at.returns-then-is_outside c).Else-not-is_marked) ∙ sym c.is_outside.ensures ∙ c.if-is_outside.true))
 
 pub returns-then-long_at-tie : goal.returns-then-long_at-tie
 returns-then-long_at-tie c =
-    let v = c in
-    let m = v in
-    sym (list_tie _ _ _ _ _ m.if-list-lt11.false (marked_in (goal.at.returns-then-long_at-tie c).Else-not-is_marked) (sym (version_is (goal.at.returns-then-long_at-tie c).Else-not-is_marked) ∙ sym v.is_outside.ensures ∙ v.if-is_outside.false)
+    sym (list_tie _ _ _ _ _ c.if-list-lt11.false (marked_in (goal.at.returns-then-long_at-tie c).Else-not-is_marked) (sym (version_is (goal.at.returns-then-long_at-tie c).Else-not-is_marked) ∙ sym c.is_outside.ensures ∙ c.if-is_outside.false)
     (λ e. c.if-long_at-tie.true (c.long_at.ensures ∙ e)))
 
 pub returns-then-most_changes-changes : goal.returns-then-most_changes-changes
 returns-then-most_changes-changes c =
-    let w = c in
-    let s = w in
-    sym (list_many _ _ _ _ _ (opened (goal.at.returns-then-most_changes-changes c).Else-long_at-tie) _ s.requires.2 _ w.word_at-changes.ensures (rw c.most_changes.ensures at c.if-most_changes-changes.true))
+    sym (list_many _ _ _ _ _ (opened (goal.at.returns-then-most_changes-changes c).Else-long_at-tie) _ c.requires.2 _ c.word_at-changes.ensures (rw c.most_changes.ensures at c.if-most_changes-changes.true))
 
 pub overflow_mul-layout : goal.overflow_mul-layout
 overflow_mul-layout c = omega (arith, (high (goal.at.overflow_mul-layout c).Else-most_changes-changes).0)
@@ -82,36 +72,24 @@ overflow_add-changes c = omega (arith, (high (goal.at.overflow_add-changes c).El
 
 pub returns-then-list-changes : goal.returns-then-list-changes
 returns-then-list-changes c =
-    let f = c in
-    let w = f in
-    let s = w in
-    sym (list_length _ _ _ _ _ (opened (goal.at.returns-then-list-changes c).Else-long_at-tie) _ s.requires.2 _ w.word_at-changes.ensures (few (goal.at.returns-then-list-changes c).Else-most_changes-changes) c.if-list-changes.true)
+    sym (list_length _ _ _ _ _ (opened (goal.at.returns-then-list-changes c).Else-long_at-tie) _ c.requires.2 _ c.word_at-changes.ensures (few (goal.at.returns-then-list-changes c).Else-most_changes-changes) c.if-list-changes.true)
 
 -- a change's bytes by the layout
-size : (c : After-declared_of) → (let s = c in
-    size_of s.args.layout.width s.args.layout.row ≡ size_of (width_of s.args.inputs) (width_of c.declared_of.result))
+size : (c : After-declared_of) →
+    size_of c.args.layout.width c.args.layout.row ≡ size_of (width_of c.args.inputs) (width_of c.declared_of.result)
 size c =
-    let s = c in
-    let y = s.requires.2 in
+    let y = c.requires.2 in
     ap₂ size_of (ap (λ y. y.width) y)
-    (ap (λ y. y.row) y ∙ ap (λ v. width_of (declared_of v s.args.outputs)) (sym (ap (λ y. y.version) y)) ∙ ap width_of (sym c.declared_of.ensures))
+    (ap (λ y. y.row) y ∙ ap (λ v. width_of (declared_of v c.args.outputs)) (sym (ap (λ y. y.version) y)) ∙ ap width_of (sym c.declared_of.ensures))
 
 pub check_changes-requires : goal.check_changes-requires
-check_changes-requires c =
-    let e = c in
-    let w = e in
-    let s = w in (
-      s.requires.0,
-      omega (arith, c.declared_of.ensures, declared_high s.args.layout.version s.args.outputs, s.requires.1),
-      e.if-list-changes.false ∙ ap (λ x. 11 + w.word_at-changes.result * x) (size (goal.at.check_changes-requires c).After-declared_of),
-    )
+check_changes-requires c = (
+  c.requires.0,
+  omega (arith, c.declared_of.ensures, declared_high c.args.layout.version c.args.outputs, c.requires.1),
+  c.if-list-changes.false ∙ ap (λ x. 11 + c.word_at-changes.result * x) (size (goal.at.check_changes-requires c).After-declared_of),
+)
 
 pub returns : goal.returns
 returns c =
-    let d = c in
-    let e = d in
-    let f = e in
-    let w = f in
-    let s = w in
     c.check_changes.ensures
-    ∙ sym (list_pass _ _ _ _ _ (opened (goal.at.returns c).Else-long_at-tie) _ s.requires.2 _ w.word_at-changes.ensures (few (goal.at.returns c).Else-most_changes-changes) e.if-list-changes.false _ d.declared_of.ensures)
+    ∙ sym (list_pass _ _ _ _ _ (opened (goal.at.returns c).Else-long_at-tie) _ c.requires.2 _ c.word_at-changes.ensures (few (goal.at.returns c).Else-most_changes-changes) c.if-list-changes.false _ c.declared_of.ensures)

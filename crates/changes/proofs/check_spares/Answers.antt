@@ -27,30 +27,25 @@ spare_in-spare-requires c = (c.loop-t.invariant.1, search rules, omega (arith, w
 
 pub returns-then-spare-gt0 : goal.returns-then-spare-gt0
 returns-then-spare-gt0 c =
-    let l = c in
-    let i = l.loop-t.invariant in
-    sym (i.3 ∙ spares_split _ _ _ _ _ _ _ l.loop-t-test.true ∙ pair_stop _ _ _ _ _ c.spare_in-spare.ensures i.1 c.if-spare-gt0.true)
+    let i = c.loop-t.invariant in
+    sym (i.3 ∙ spares_split _ _ _ _ _ _ _ c.loop-t-test.true ∙ pair_stop _ _ _ _ _ c.spare_in-spare.ensures i.1 c.if-spare-gt0.true)
 
 pub spare_in-spare-requires-in-loop-t : goal.spare_in-spare-requires-in-loop-t
-spare_in-spare-requires-in-loop-t c = let l = c in (omega (arith, l.loop-t.invariant.1), search rules, omega (arith, whole (goal.at.spare_in-spare-requires-in-loop-t c).In-loop-t))
+spare_in-spare-requires-in-loop-t c = (omega (arith, c.loop-t.invariant.1), search rules, omega (arith, whole (goal.at.spare_in-spare-requires-in-loop-t c).In-loop-t))
 
 pub returns-then-spare-gt0-2 : goal.returns-then-spare-gt0-2
 returns-then-spare-gt0-2 c =
-    let one = c in
-    let l = one in
-    let i = l.loop-t.invariant in
-    sym (i.3 ∙ spares_split _ _ _ _ _ _ _ l.loop-t-test.true ∙ pair_pass _ _ _ _ _ one.spare_in-spare.ensures i.1 one.if-spare-gt0.false
+    let i = c.loop-t.invariant in
+    sym (i.3 ∙ spares_split _ _ _ _ _ _ _ c.loop-t-test.true ∙ pair_pass _ _ _ _ _ c.spare_in-spare.ensures i.1 c.if-spare-gt0.false
     ∙ pair_stop _ _ _ _ _ c.spare_in-spare-in-loop-t.ensures (omega (arith, i.1)) c.if-spare-gt0-2.true)
 
 pub loop-t-preserved : goal.loop-t-preserved
 loop-t-preserved c =
-    let one = c in
-    let l = one in
-    let i = l.loop-t.invariant in (
+    let i = c.loop-t.invariant in (
       search rules,
       search rules,
       whole (goal.at.loop-t-preserved c).In-loop-t,
-      i.3 ∙ spares_split _ _ _ _ _ _ _ l.loop-t-test.true ∙ pair_pass _ _ _ _ _ one.spare_in-spare.ensures i.1 one.if-spare-gt0.false
+      i.3 ∙ spares_split _ _ _ _ _ _ _ c.loop-t-test.true ∙ pair_pass _ _ _ _ _ c.spare_in-spare.ensures i.1 c.if-spare-gt0.false
           ∙ pair_pass _ _ _ _ _ c.spare_in-spare-in-loop-t.ensures (omega (arith, i.1)) c.if-spare-gt0-2.false,
     )
 

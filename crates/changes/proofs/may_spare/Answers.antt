@@ -24,9 +24,8 @@ room c =
 
 pub returns-then-used-eq8 : goal.returns-then-used-eq8
 returns-then-used-eq8 c =
-    let k = c in
-    let l = k.args.list.now in
-    record { clear = λ e t h. eight_clear k.args.bits l c.if-used-eq8.true (λ at. let low : byte_at l at < 256 = omega (arith, k.type_inv.list at) in low) _ }
+    let l = c.args.list.now in
+    record { clear = λ e t h. eight_clear c.args.bits l c.if-used-eq8.true (λ at. let low : byte_at l at < 256 = omega (arith, c.type_inv.list at) in low) _ }
 
 pub loop-t-init : goal.loop-t-init
 loop-t-init c =
@@ -42,9 +41,8 @@ byte_in-requires-in-loop-t c = omega (arith, room (goal.at.byte_in-requires-in-l
 
 pub loop-t-preserved : goal.loop-t-preserved
 loop-t-preserved c =
-    let i = c in
-    let a = i.args in
-    let l = i.loop-t in
+    let a = c.args in
+    let l = c.loop-t in
     let here : l.last ≡ last_place a.bits (a.at + l.t * a.size) = omega (arith, l.invariant.2) in
     let there : l.last + width_of a.bits ≡ last_place a.bits (a.at + l.t * a.size + width_of a.bits) = omega (arith, l.invariant.2) in (
       search rules,
@@ -56,11 +54,10 @@ loop-t-preserved c =
 
 pub returns : goal.returns
 returns c =
-    let l = c in
-    let a = l.args in
+    let a = c.args in
     record {
       clear =
           λ e t h.
-          under_clear a.bits a.list.now a.at a.size l.loop-t.t l.loop-t.all _ l.loop-t.invariant.3 c.byte_past.ensures (leb-false _ _ e) t
+          under_clear a.bits a.list.now a.at a.size c.loop-t.t c.loop-t.all _ c.loop-t.invariant.3 c.byte_past.ensures (leb-false _ _ e) t
           (omega (arith, h, c.loop-t-test.false));
     }

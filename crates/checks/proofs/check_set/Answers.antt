@@ -15,14 +15,12 @@ returns-then-set-wanted-eq0 c =
 
 pub returns-then-class-lt8 : goal.returns-then-class-lt8
 returns-then-class-lt8 c =
-    let s = c in
-    let a = s.args in
-    c.joined_by.ensures ∙ ap (λ x. code (joined_by a.waiter (of_code x))) s.requires.3 ∙ joins a.waiter (of_code (code_or (only a.set)))
-    ∙ check_b a.set a.wanted (waiting_of a.waiter) s.requires.1 c.if-set-wanted-eq0.false (omega (arith, s.requires.3))
+    let a = c.args in
+    c.joined_by.ensures ∙ ap (λ x. code (joined_by a.waiter (of_code x))) c.requires.3 ∙ joins a.waiter (of_code (code_or (only a.set)))
+    ∙ check_b a.set a.wanted (waiting_of a.waiter) c.requires.1 c.if-set-wanted-eq0.false (omega (arith, c.requires.3))
 
 pub returns : goal.returns
 returns c =
-    let s = c in
-    let a = s.args in
+    let a = c.args in
     c.same_result_of.ensures
-    ∙ check_c a.set a.wanted (waiting_of a.waiter) s.requires.1 c.if-set-wanted-eq0.false (omega (arith, s.requires.3))
+    ∙ check_c a.set a.wanted (waiting_of a.waiter) c.requires.1 c.if-set-wanted-eq0.false (omega (arith, c.requires.3))

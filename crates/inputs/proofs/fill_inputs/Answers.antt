@@ -34,11 +34,8 @@ fill_byte-requires c = omega (arith, kept (goal.at.fill_byte-requires c).At-loop
 
 pub loop-j-preserved : goal.loop-j-preserved
 loop-j-preserved c =
-    let f = c in
-    let b = f in
-    let l = b in
-    let e : 8 * (l.loop-j.j + 1) ≡ 8 * l.loop-j.j + 8 = omega arith in
-    (search rules, rw e (f.fill_byte.ensures ∙ byte_written _ _ _ _ _ _ b.byte_at.ensures b.byte_at-in-loop-j.ensures _ _ 8 (search rules) l.loop-j.invariant.1))
+    let e : 8 * (c.loop-j.j + 1) ≡ 8 * c.loop-j.j + 8 = omega arith in
+    (search rules, rw e (c.fill_byte.ensures ∙ byte_written _ _ _ _ _ _ c.byte_at.ensures c.byte_at-in-loop-j.ensures _ _ 8 (search rules) c.loop-j.invariant.1))
 
 pub overflow_add-first-3 : goal.overflow_add-first-3
 overflow_add-first-3 c = omega (arith, change_high _ _ _ c.requires.0 c.requires.1 c.requires.2)
@@ -51,12 +48,9 @@ fill_byte-requires-2 c = omega (arith, kept (goal.at.fill_byte-requires-2 c).At-
 
 pub returns : goal.returns
 returns c =
-    let f = c in
-    let b = f in
-    let l = b in
-    let n = l.args.task.shape.inputs in
+    let n = c.args.task.shape.inputs in
     let e : 8 * (n / 8) + n % 8 ≡ n = omega arith in
-    let whole : l.loop-j.j ≡ n / 8 = search rules in
-    f.fill_byte-2.ensures
-    ∙ byte_written _ _ _ _ _ _ b.byte_at-2.ensures b.byte_at-3.ensures _ _ (n % 8) (omega arith) (rw whole at l.loop-j.invariant.1)
+    let whole : c.loop-j.j ≡ n / 8 = search rules in
+    c.fill_byte-2.ensures
+    ∙ byte_written _ _ _ _ _ _ c.byte_at-2.ensures c.byte_at-3.ensures _ _ (n % 8) (omega arith) (rw whole at c.loop-j.invariant.1)
     ∙ rw e (written_all _ _ _)

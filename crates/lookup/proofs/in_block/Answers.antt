@@ -7,10 +7,7 @@ use Rattle.lookup.proofs.in_block.Goals as goal
 -- `lookup::in_block` meets its contract: a set is the union of its halves. Assumes nothing.
 pub returns : goal.returns
 returns c =
-    let b = c in
-    let a = b in
-    let s = a in
     (λ i.
-    bit_or ((a.number_at.ensures ∙ ap₂ (λ t k. get_or t k 0) s.requires.0 a.entry_in.ensures) i)
-    ((c.number_at-2.ensures ∙ ap₂ (λ t k. get_or t k 0) s.requires.0 b.entry_in-2.ensures) i))
-    ∙ block_at s.args.block s.args.set s.requires.1 s.requires.2
+    bit_or ((c.number_at.ensures ∙ ap₂ (λ t k. get_or t k 0) c.requires.0 c.entry_in.ensures) i)
+    ((c.number_at-2.ensures ∙ ap₂ (λ t k. get_or t k 0) c.requires.0 c.entry_in-2.ensures) i))
+    ∙ block_at c.args.block c.args.set c.requires.1 c.requires.2

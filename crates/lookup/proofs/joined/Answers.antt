@@ -13,9 +13,8 @@ overflow_cast-result c = omega (arith, trailing_le 8 c.image_of-image.result)
 
 pub returns : goal.returns
 returns c =
-    let k = c in
-    let a = k.args in
+    let a = c.args in
     ap (count_trailing_zeros 8)
     (c.image_of-image.ensures
-    ∙ (λ i. image (op_at (k.wide.ensures i)) (of_code (k.wide-2.ensures i)) ((c.wide-3.ensures ∙ k.with_class.ensures) i)))
+    ∙ (λ i. image (op_at (c.wide.ensures i)) (of_code (c.wide-2.ensures i)) ((c.wide-3.ensures ∙ c.with_class.ensures) i)))
     ∙ lowest_image (op_at a.operation) (of_code a.p) (of_code a.class)

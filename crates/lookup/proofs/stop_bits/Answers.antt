@@ -8,7 +8,6 @@ use Rattle.lookup.proofs.stop_bits.Goals as goal
 -- `lookup::stop_bits` meets its contract. Assumes nothing.
 pub returns : goal.returns
 returns c =
-    let s = c in
-    let a = s.args in
-    ap (bit_or (255 - a.reach)) (c.number_at.ensures ∙ ap (λ t. get_or t (4096 + 136 + a.waiter * 4 + a.gate) 0) s.requires.0)
-    ∙ stop_at a.waiter a.gate a.reach s.requires.1 s.requires.2 s.requires.3
+    let a = c.args in
+    ap (bit_or (255 - a.reach)) (c.number_at.ensures ∙ ap (λ t. get_or t (4096 + 136 + a.waiter * 4 + a.gate) 0) c.requires.0)
+    ∙ stop_at a.waiter a.gate a.reach c.requires.1 c.requires.2 c.requires.3

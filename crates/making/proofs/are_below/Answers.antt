@@ -11,14 +11,12 @@ loop-j-init c = (search rules, search rules, refl)
 
 pub loop-j-preserved : goal.loop-j-preserved
 loop-j-preserved c =
-    let a = c in
-    let high = leb a.args.bound (get_or a.args.row c.loop-j.j 0) in (
+    let high = leb c.args.bound (get_or c.args.row c.loop-j.j 0) in (
       search rules,
       or_low c.loop-j.high high c.loop-j.invariant.1,
-      below_more_high a.args.row a.args.bound c.loop-j.high c.loop-j.j c.loop-j.invariant.1 (omega arith) c.loop-j.invariant.2,
+      below_more_high c.args.row c.args.bound c.loop-j.high c.loop-j.j c.loop-j.invariant.1 (omega arith) c.loop-j.invariant.2,
     )
 
 pub returns : goal.returns
 returns c =
-    let a = c in
-    sym (c.loop-j.invariant.2 ∙ below_end a.args.row a.args.bound c.loop-j.high c.loop-j.j (omega arith))
+    sym (c.loop-j.invariant.2 ∙ below_end c.args.row c.args.bound c.loop-j.high c.loop-j.j (omega arith))

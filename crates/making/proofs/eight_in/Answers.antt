@@ -13,19 +13,17 @@ loop-j-init c = (search rules, refl, λ k h. absurd (omega arith))
 
 pub pick-requires : goal.pick-requires
 pick-requires c =
-    let a = c in
-    rw a.requires.0 (ones_low _ (search rules))
+    rw c.requires.0 (ones_low _ (search rules))
 
 pub loop-j-preserved : goal.loop-j-preserved
 loop-j-preserved c =
-    let a = c in
-    let at = a.args in
-    let own = ap (λ (w : List ℕ). get_or w (8 - at.count + a.loop-j.j) 0) a.requires.0 in (
+    let at = c.args in
+    let own = ap (λ (w : List ℕ). get_or w (8 - at.count + c.loop-j.j) 0) c.requires.0 in (
       search rules,
-      length-set a.loop-j.row a.loop-j.j c.pick.result ∙ a.loop-j.invariant.1,
-      filled_more (pin_or at.s.now at.at at.count at.past) a.loop-j.row a.loop-j.j c.pick.result (search rules)
-          (c.pick.ensures ∙ rw (own, c.word_in.ensures) (window_pin at.s.now at.at at.count at.past a.loop-j.j (search rules) (search rules)))
-          a.loop-j.invariant.2,
+      length-set c.loop-j.row c.loop-j.j c.pick.result ∙ c.loop-j.invariant.1,
+      filled_more (pin_or at.s.now at.at at.count at.past) c.loop-j.row c.loop-j.j c.pick.result (search rules)
+          (c.pick.ensures ∙ rw (own, c.word_in.ensures) (window_pin at.s.now at.at at.count at.past c.loop-j.j (search rules) (search rules)))
+          c.loop-j.invariant.2,
     )
 
 pub returns : goal.returns

@@ -16,7 +16,6 @@ returns-then-rows-base c = let a = c.args in sym (put_out a.rows.now (9 * a.sign
 
 pub returns : goal.returns
 returns c =
-    let start = c in
-    let a = start.args in
+    let a = c.args in
     let e : 9 * a.signal + 8 ≡ 9 * a.signal + length a.row = omega (arith, long (goal.at.returns c).Start) in
     rw (c.put_pins.ensures, e) (put_more a.rows.now (9 * a.signal) a.row a.word (omega (arith, long (goal.at.returns c).Start)))

@@ -12,21 +12,19 @@ loop-j-init c = (search rules, refl, λ k h. absurd (omega arith), λ k l h. get
 
 pub loop-j-preserved : goal.loop-j-preserved
 loop-j-preserved c =
-    let a = c in
-    let at = a.args in
-    let past = a.past_of-past.result in (
+    let at = c.args in
+    let past = c.past_of-past.result in (
       search rules,
-      length-set a.loop-j.row a.loop-j.j c.word_in.result ∙ a.loop-j.invariant.1,
-      filled_more (pin_or at.s.now at.at at.count past) a.loop-j.row a.loop-j.j c.word_in.result (search rules) (c.word_in.ensures ∙ pin_own at.s.now at.at at.count past a.loop-j.j (search rules)) a.loop-j.invariant.2,
-      λ k l h. get_or-set_other a.loop-j.row a.loop-j.j k c.word_in.result 0 (λ e. omega arith) ∙ a.loop-j.invariant.3 k (omega arith) h,
+      length-set c.loop-j.row c.loop-j.j c.word_in.result ∙ c.loop-j.invariant.1,
+      filled_more (pin_or at.s.now at.at at.count past) c.loop-j.row c.loop-j.j c.word_in.result (search rules) (c.word_in.ensures ∙ pin_own at.s.now at.at at.count past c.loop-j.j (search rules)) c.loop-j.invariant.2,
+      λ k l h. get_or-set_other c.loop-j.row c.loop-j.j k c.word_in.result 0 (λ e. omega arith) ∙ c.loop-j.invariant.3 k (omega arith) h,
     )
 
 pub returns : goal.returns
 returns c =
-    let a = c in
-    let at = a.args in
-    eight_all _ _ _ _ _ a.loop-j.invariant.1
-    (filled_rest at.s.now at.at at.count a.past_of-past.result a.loop-j.row
-    (λ k l. a.loop-j.invariant.2 k (omega arith))
-    (λ k l h. a.loop-j.invariant.3 k (omega arith) h))
-    ∙ ap (eight_at at.s.now at.at at.count) a.past_of-past.ensures
+    let at = c.args in
+    eight_all _ _ _ _ _ c.loop-j.invariant.1
+    (filled_rest at.s.now at.at at.count c.past_of-past.result c.loop-j.row
+    (λ k l. c.loop-j.invariant.2 k (omega arith))
+    (λ k l h. c.loop-j.invariant.3 k (omega arith) h))
+    ∙ ap (eight_at at.s.now at.at at.count) c.past_of-past.ensures

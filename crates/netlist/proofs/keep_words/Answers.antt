@@ -19,11 +19,10 @@ long c = words_length c.args.count c.args.s.now c.args.at
 
 kept : (c : At-loop-k) → length c.loop-k.rows ≡ length c.args.rows.now
 kept c =
-    let start = c in
-    ap length c.loop-k.invariant.1 ∙ length-paste start.args.rows.now start.args.base _ c.loop-k.k (search rules) (omega (arith, long (goal.at.At-loop-k c).Start))
+    ap length c.loop-k.invariant.1 ∙ length-paste c.args.rows.now c.args.base _ c.loop-k.k (search rules) (omega (arith, long (goal.at.At-loop-k c).Start))
 
 pub returns-then-rows-base : goal.returns-then-rows-base
-returns-then-rows-base c = let start = c in sym (put_out start.args.rows.now start.args.base _ (omega (arith, long (goal.at.returns-then-rows-base c).Start)))
+returns-then-rows-base c = sym (put_out c.args.rows.now c.args.base _ (omega (arith, long (goal.at.returns-then-rows-base c).Start)))
 
 pub loop-k-init : goal.loop-k-init
 loop-k-init c = let a = c.args in (search rules, paste-zero a.rows.now a.base (words_at a.count a.s.now a.at))
@@ -33,13 +32,11 @@ bounds-rows-base c = omega (arith, kept (goal.at.bounds-rows-base c).At-loop-k)
 
 pub loop-k-preserved : goal.loop-k-preserved
 loop-k-preserved c =
-    let l = c in
-    let start = l in
-    let a = start.args in (
+    let a = c.args in (
       search rules,
-      paste_more a.rows.now a.base (words_at a.count a.s.now a.at) l.loop-k.k c.word_in.result l.loop-k.rows (search rules) (omega (arith, long (goal.at.loop-k-preserved c).Start))
-          (c.word_in.ensures ∙ sym (words_at_lem a.count a.s.now a.at l.loop-k.k (search rules)))
-          l.loop-k.invariant.1,
+      paste_more a.rows.now a.base (words_at a.count a.s.now a.at) c.loop-k.k c.word_in.result c.loop-k.rows (search rules) (omega (arith, long (goal.at.loop-k-preserved c).Start))
+          (c.word_in.ensures ∙ sym (words_at_lem a.count a.s.now a.at c.loop-k.k (search rules)))
+          c.loop-k.invariant.1,
     )
 
 pub shape_of-rows : goal.shape_of-rows
@@ -47,8 +44,6 @@ shape_of-rows c = kept (goal.at.shape_of-rows c).At-loop-k
 
 pub returns : goal.returns
 returns c =
-    let l = c in
-    let start = l in
-    let a = start.args in
+    let a = c.args in
     let h = long (goal.at.returns c).Start in
-    paste_end a.rows.now a.base (words_at a.count a.s.now a.at) l.loop-k.k l.loop-k.rows (omega arith) (omega arith) l.loop-k.invariant.1
+    paste_end a.rows.now a.base (words_at a.count a.s.now a.at) c.loop-k.k c.loop-k.rows (omega arith) (omega arith) c.loop-k.invariant.1

@@ -46,7 +46,7 @@ bounds-buffer-output c =
     omega (arith, kept (goal.at.bounds-buffer-output c).At-loop-output, c.requires.enough)
 
 -- what is found, by what is known at first
-found : (c : After-find-found) → let o = c in
+found : (c : After-find-found) →
     let a = c.args in
     c.find-found.result ≡ found_of (spec.search (source_from a.rows.now a.known.now) (get_or a.wanted.now c.loop-output.output 0) c.output_of-signal.result)
 found c =

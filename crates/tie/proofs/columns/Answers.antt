@@ -6,14 +6,13 @@ pub loop-k-init : goal.loop-k-init
 loop-k-init c = (search rules, refl, λ j h. absurd (omega arith))
 
 pub loop-k-preserved : goal.loop-k-preserved
-loop-k-preserved c =
-    let a = c in (
-      search rules,
-      length-set a.loop-k.sums a.loop-k.k c.column_at.result ∙ a.loop-k.invariant.1,
-      below_more _ a.loop-k.k
-          (λ j h. get_or-set_other a.loop-k.sums a.loop-k.k j _ 0 (λ e. omega arith) ∙ a.loop-k.invariant.2 j h)
-          (get_or-set_same a.loop-k.sums a.loop-k.k _ 0 (search rules) ∙ c.column_at.ensures),
-    )
+loop-k-preserved c = (
+  search rules,
+  length-set c.loop-k.sums c.loop-k.k c.column_at.result ∙ c.loop-k.invariant.1,
+  below_more _ c.loop-k.k
+      (λ j h. get_or-set_other c.loop-k.sums c.loop-k.k j _ 0 (λ e. omega arith) ∙ c.loop-k.invariant.2 j h)
+      (get_or-set_same c.loop-k.sums c.loop-k.k _ 0 (search rules) ∙ c.column_at.ensures),
+)
 
 pub returns : goal.returns
 returns c = let l = c.loop-k in columns_all _ _ _ l.invariant.1 (λ j h. l.invariant.2 j (omega arith))

@@ -10,16 +10,13 @@ loop-i-init c = (search rules, search rules, search rules, refl)
 
 pub loop-i-preserved : goal.loop-i-preserved
 loop-i-preserved c =
-    let l = c in
-    let e = l.loop-i.invariant.3 ∙ tie_block 64 l.loop-i.a l.loop-i.b l.args.s.now l.loop-i.i (search rules) (search rules) (search rules) in
-    let d = carried l.loop-i.b (64 * l.loop-i.a) (weight_at 64 l.args.s.now l.loop-i.i) in
-    let second = c in
-    let weight = second.block_weight.ensures in
-    let first = second in (
+    let e = c.loop-i.invariant.3 ∙ tie_block 64 c.loop-i.a c.loop-i.b c.args.s.now c.loop-i.i (search rules) (search rules) (search rules) in
+    let d = carried c.loop-i.b (64 * c.loop-i.a) (weight_at 64 c.args.s.now c.loop-i.i) in
+    let weight = c.block_weight.ensures in (
       search rules,
       omega (arith, c.wrapping_add_u32-a.ensures.value),
-      omega (arith, second.wrapping_add_u32-b-in-loop-i.ensures.value),
-      rw (c.wrapping_add_u32-a.ensures.value, c.block_sum.ensures, second.wrapping_add_u32-b-in-loop-i.ensures.value, weight, first.wrapping_add_u32-b.ensures.value, first.times_64.ensures, d) e,
+      omega (arith, c.wrapping_add_u32-b-in-loop-i.ensures.value),
+      rw (c.wrapping_add_u32-a.ensures.value, c.block_sum.ensures, c.wrapping_add_u32-b-in-loop-i.ensures.value, weight, c.wrapping_add_u32-b.ensures.value, c.times_64.ensures, d) e,
     )
 
 pub returns : goal.returns

@@ -10,9 +10,8 @@ overflow_cast-s c = omega (arith, c.type_inv.s c.loop-i.i)
 
 pub loop-i-preserved : goal.loop-i-preserved
 loop-i-preserved c =
-    let at = c in
-    let e = at.loop-i.invariant.1 ∙ tie_more at.loop-i.a at.loop-i.b at.args.s.now at.loop-i.i c.loop-i-test.true in
+    let e = c.loop-i.invariant.1 ∙ tie_more c.loop-i.a c.loop-i.b c.args.s.now c.loop-i.i c.loop-i-test.true in
     (search rules, rw (c.wrapping_add_u32-b.ensures.value, c.wrapping_add_u32-a.ensures.value) e)
 
 pub returns : goal.returns
-returns c = let at = c in sym (at.loop-i.invariant.1 ∙ tie_end at.loop-i.a at.loop-i.b at.args.s.now at.loop-i.i (omega arith))
+returns c = sym (c.loop-i.invariant.1 ∙ tie_end c.loop-i.a c.loop-i.b c.args.s.now c.loop-i.i (omega arith))

@@ -5,21 +5,16 @@ use Rattle.tie.proofs.times_64.Goals as goal
 -- `times_64`: each sum doubles the one before. Assumes nothing.
 pub returns : goal.returns
 returns c =
-    let thirty_two = c in
-    let sixteen = thirty_two in
-    let eight = sixteen in
-    let four = eight in
-    let two = four in
-    let a = two.args.a in
+    let a = c.args.a in
     doubled 32 a _ _
     (doubled 16 a _ _
     (doubled 8 a _ _
     (doubled 4 a _ _
     (doubled 2 a _ _
     (doubled 1 a a _ (omega arith)
-    two.wrapping_add_u32-two.ensures.value)
-    four.wrapping_add_u32-four.ensures.value)
-    eight.wrapping_add_u32-eight.ensures.value)
-    sixteen.wrapping_add_u32-sixteen.ensures.value)
-    thirty_two.wrapping_add_u32-thirty_two.ensures.value)
+    c.wrapping_add_u32-two.ensures.value)
+    c.wrapping_add_u32-four.ensures.value)
+    c.wrapping_add_u32-eight.ensures.value)
+    c.wrapping_add_u32-sixteen.ensures.value)
+    c.wrapping_add_u32-thirty_two.ensures.value)
     c.wrapping_add_u32.ensures.value
