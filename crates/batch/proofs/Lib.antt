@@ -1,3 +1,2 @@
 pub mod Theorems
 mod Answers
-mod Changes

@@ -1,29 +1,28 @@
 -- A call for every change gives what the calls for one change give. Assumes nothing.
-use Rattle.std.proofs.Common.{◌≡◌, ℕ, zero, suc, ◌+◌, ◌*◌, ◌<◌, ◌≤◌, Bool, true, false, ltb, List, [], ◌∷◌, ◌++◌, length, get_or, take, drop, sym, refl, ap, ◌∙◌, subst, append_assoc, arith, take_at, drop_at}
+use Rattle.std.proofs.Common.{◌≡◌, ℕ, Ok, Err, zero, suc, ◌+◌, ◌*◌, ◌<◌, ◌≤◌, List, [], ◌∷◌, ◌++◌, length, get_or, take, drop, sym, refl, ap, ◌∙◌, subst, append_assoc, arith, take_at, drop_at}
 use native.Mathlib.Decide.{dec_lt}
 use Rattle.kung.proofs.Listed.{get_d_tab}
-use Rattle.words.specs.Refusal.{refuse}
+use Rattle.refusals.specs.declared.Refusal.TheVariants.{BufferShort}
+use Rattle.refusals.proofs.Laws.{passed, refused_not}
 use Rattle.netlist.specs.Netlist.{inputs_of, gates_of, outputs_of}
-use Rattle.changes.specs.declared.Listed.{Listed}
-use Rattle.changes.specs.declared.Listed.TheVariants as list
-use Rattle.changes.specs.Refusals.{list_checked}
+use Rattle.changes.specs.Refusals.{Listed, list_checked}
 use Rattle.changes.specs.declared.Task.{Task}
 use Rattle.changes.proofs.Accepted.{listed}
 use Rattle.simulate.specs.Full.{codes}
 use Rattle.simulate.proofs.Answers as simulate
 use Rattle.search.specs.Search.{Verdict, clean, hazardous}
 use Rattle.search.specs.Pins.{sum_below}
-use Rattle.core_search.specs.Core.{search_of, answered, core_answer}
+use Rattle.core_search.specs.Core.{answered_with, search_of, core_answer}
 use Rattle.outputs.specs.Outputs.{verdict_byte}
 use Rattle.core_search.proofs.Entry.{answers}
 use Rattle.constants.specs.Change.{touched_in}
 use Rattle.forward.specs.Forward.{visited_in, forward_bytes}
 use Rattle.forward.proofs.Answers as forward
-use Rattle.lists.specs.declared.Judged.TheVariants.{Done, Refused}
+use Rattle.lists.specs.declared.Judged.{Judged}
 use Rattle.lists.specs.Methods.{rows, core_bytes, core_sum, Method, done_for}
 use Rattle.lists.proofs.Rows.{Regular, rows_length}
 use Rattle.lists.proofs.Changes.{card, full_regular, forward_regular, core_regular}
-use Rattle.batch.specs.Batch.{all_from, all_answer, all_buffer}
+use Rattle.batch.specs.Batch.{AllAnswer, all_from, all_answer, all_buffer}
 use Rattle.batch.specs.Single as single
 use Rattle.batch.specs.Single.{FullAlone, ForwardAlone, Says, CoreAlone, RowByRow, SingleCalls}
 
@@ -46,25 +45,37 @@ rows_part {m} {w} r (suc T) t rest early =
 -- a call that is not refused: its list is accepted, and it answers with the method's numbers
 record Answered (m : Method) (n l buffer : List ℕ) (T width first second : ℕ) : Type 0 where
   task : Task
-  accepted : list_checked n l ≡ list.Accepted task
+  accepted : list_checked n l ≡ Ok task
   changes_are : task.changes ≡ T
   width_is : width ≡ m.width
   first_is : first ≡ m.first T
   second_is : second ≡ m.second T
 
-module _ (m : Method) (n l buffer : List ℕ) {T width first second : ℕ} (done : all_answer m n l buffer ≡ Done T width first second) where
+ok_same : {a b : Judged} → ◌≡◌ {A = AllAnswer} (Ok a) (Ok b) → a ≡ b
+ok_same e = cc
+
+module _ (m : Method) (n l buffer : List ℕ) {T width first second : ℕ}
+    (done : all_answer m n l buffer ≡ Ok (record { changes = T; width = width; first = first; second = second })) where
+  abbrev judged : Judged
+  judged = record { changes = T; width = width; first = first; second = second }
+
   answered_by_lem : Answered m n l buffer T width first second
-  unfolding all_answer all_from refuse
+  unfolding all_answer all_from
   answered_by_lem = go (list_checked n l) refl done
     where
-      go : (x : Listed) → list_checked n l ≡ x → all_from m x (length buffer) ≡ Done T width first second → Answered m n l buffer T width first second
-      go (list.Refused number place) e h = let z : ◌≡◌ {A = ℕ} 0 1 = cc in absurd (omega arith)
-      go (list.Accepted task) e h = room (ltb (length buffer) (task.changes * m.width)) h
-        where
-          room : (b : Bool) → refuse Refused b 20 0 (done_for m task.changes) ≡ Done T width first second → Answered m n l buffer T width first second
-          room true h = let z : ◌≡◌ {A = ℕ} 0 1 = cc in absurd (omega arith)
-          room false h =
-              let same : task.changes ≡ T = cc in record { task = task; accepted = e; changes_are = same; width_is = cc; first_is = cc; second_is = cc }
+      go : (x : Listed) → list_checked n l ≡ x → all_from m x (length buffer) ≡ Ok judged → Answered m n l buffer T width first second
+      go (Err refusal) e h = absurd (refused_not refusal judged h)
+      go (Ok task) e h =
+          let is : done_for m task.changes ≡ judged = ok_same (passed _ BufferShort (Ok (done_for m task.changes)) judged h).1 in
+          let same : task.changes ≡ T = ap (λ j. j.changes) is in
+          record {
+            task = task;
+            accepted = e;
+            changes_are = same;
+            width_is = ap (λ j. j.width) (sym is);
+            first_is = ap (λ j. j.first) (sym is) ∙ ap m.first same;
+            second_is = ap (λ j. j.second) (sym is) ∙ ap m.second same;
+          }
 
   row_at : {w : ℕ} → Regular m w → (t : ℕ) → t < T → take width (drop (t * width) (all_buffer m n l buffer)) ≡ m.row t
   unfolding all_buffer
@@ -99,7 +110,7 @@ get_d_any (x ∷ l) zero d e h = refl
 get_d_any (x ∷ l) (suc k) d e h = get_d_any l k d e (omega arith)
 
 -- each method's calls for a change of an accepted list
-module _ {task : Task} (n l : List ℕ) (accepted : list_checked n l ≡ list.Accepted task) (t : ℕ) (early : t < task.changes) where
+module _ {task : Task} (n l : List ℕ) (accepted : list_checked n l ≡ Ok task) (t : ℕ) (early : t < task.changes) where
   abbrev o : ℕ
   o = task.shape.outputs
 
@@ -107,7 +118,7 @@ module _ {task : Task} (n l : List ℕ) (accepted : list_checked n l ≡ list.Ac
   full_alone =
       let f = full_regular n l accepted in
       let d : (buffer : List ℕ) → inputs_of n + gates_of n ≤ length buffer → _ =
-      λ buffer room. simulate.done n l t buffer accepted early (rw f.wide room) _ refl in
+      λ buffer room. simulate.written n l t buffer accepted early (rw f.wide room) _ refl in
       record {
         answer = λ buffer room. sym (d buffer room).0;
         bytes = λ buffer room. ap (take (inputs_of n + gates_of n)) (sym (d buffer room).1) ∙ take_at (codes n l t) _ (inputs_of n + gates_of n) (f.each t ∙ f.wide);
@@ -119,7 +130,7 @@ module _ {task : Task} (n l : List ℕ) (accepted : list_checked n l ≡ list.Ac
   forward_alone =
       let f = forward_regular n l accepted in
       let d : (buffer : List ℕ) → outputs_of n ≤ length buffer → _ =
-      λ buffer room. forward.done n l t buffer accepted early (rw f.wide room) _ _ refl refl _ refl in
+      λ buffer room. forward.forwarded n l t buffer accepted early (rw f.wide room) _ _ refl refl _ refl in
       record {
         answer = λ buffer room. sym (d buffer room).0;
         bytes = λ buffer room. ap (take (outputs_of n)) (sym (d buffer room).1) ∙ take_at (forward_bytes n l t) _ (outputs_of n) (f.each t ∙ f.wide);
@@ -136,7 +147,7 @@ module _ {task : Task} (n l : List ℕ) (accepted : list_checked n l ≡ list.Ac
   core_says output is = go (search_of n l t output).verdict (core_byte output is) (sym (answers n l t output accepted early is))
     where
       go : (v : Verdict) → get_or (core_bytes n l t) output 2 ≡ verdict_byte v
-          → core_answer n l t output ≡ answered v (search_of n l t output).gates (search_of n l t output).pins
+          → core_answer n l t output ≡ answered_with (record { verdict = v; gates = (search_of n l t output).gates; pins = (search_of n l t output).pins })
           → Says (get_or (core_bytes n l t) output 2) (search_of n l t output).gates (search_of n l t output).pins (core_answer n l t output)
       go (clean k) b a = single.clean _ b a
       go hazardous b a = single.hazardous b a

@@ -1,3 +1,3 @@
 pub mod Batch
 pub mod Single
-pub mod Lent
+pub mod Laws

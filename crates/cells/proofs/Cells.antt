@@ -1,5 +1,5 @@
 -- Laws of a signal's byte in a search. Assumes nothing.
-use Prim.Native.Nat.{ℕ, ◌+◌, ◌-◌, ◌/◌, ◌%◌, ◌≤◌, ◌<◌}
+use Prim.Native.Nat.{ℕ, ◌-◌, ◌/◌, ◌%◌, ◌≤◌, ◌<◌}
 use native.Mathlib.Omega.{arith}
 use mathlib.Core.Path.{◌≡◌, refl, sym, ◌∙◌, ap}
 use mathlib.Core.Bool.{Bool, true, false, cond}
@@ -8,11 +8,12 @@ use mathlib.Core.Option.{Option, none, some}
 use lib.Dec.{ltb}
 use lib.ListN.{get_or, set, get_or-map}
 use lib.Seq.{map-set_same}
-use borrow.Author.Tests.{lt-ltb, le-ltb, ltb-true, ltb-false}
+use borrow.Author.Tests.{lt-ltb, le-ltb}
+use Rattle.std.proofs.lemmas.Bool.Decides.{nat_tests}
 use Rattle.kung.specs.Class.{Class, code, of_code}
 use Rattle.kung.specs.Operation.{op_at, invert_if, unit}
 use Rattle.kung.proofs.Finite.{of_code_code}
-use Rattle.kung.proofs.Laws.{invert_invert}
+use Rattle.kung.proofs.Laws.{invert_if_twice}
 use Rattle.kung.proofs.SetLaws.{code_lt}
 use Rattle.search.specs.Search.{new, kept}
 use Rattle.checks.specs.Codes.{code_or}
@@ -35,16 +36,12 @@ cell_known v b l = rw (le-ltb b 16 (omega arith), le-ltb b 128 l)
 
 -- what is known stays where a gate's byte is written
 pub known_small : (b : ℕ) → 8 ≤ b → known_of b ≡ 8
-known_small b h = rw (le-ltb b 8 h)
+known_small b h = grind (arith, nat_tests)
 
 pub known_set : (bytes : List ℕ) (s b : ℕ) → 8 ≤ get_or bytes s 0 → 8 ≤ b → known_in (set bytes s b) ≡ known_in bytes
 known_set bytes s b old large = map-set_same known_of bytes s b 0 (known_small b large ∙ sym (known_small (get_or bytes s 0) old))
 
 -- the marks of a gate with p and its next pin
-twice : (v : Bool) (k : Class) → invert_if v (invert_if v k) ≡ k
-twice true k = invert_invert k
-twice false k = refl
-
 pub same_code : (b : ℕ) (k : Class) → b % 8 ≡ code k → of_code b ≡ k
 same_code b k e = sym (of_code_code (of_code b)) ∙ ap of_code (code_of_code b ∙ e) ∙ of_code_code k
 
@@ -55,7 +52,7 @@ known_cell v p next =
     let b = known_mark (code k) next in
     let rest : b % 8 ≡ code k = omega arith in
     let pin : b / 8 - 16 ≡ next = omega arith in
-    cell_known v b (omega arith) ∙ (λ i. kept (invert_if v (same_code b k rest i)) (pin i)) ∙ ap (λ k. kept k next) (twice v p)
+    cell_known v b (omega arith) ∙ (λ i. kept (invert_if v (same_code b k rest i)) (pin i)) ∙ ap (λ k. kept k next) (invert_if_twice v p)
 
 pub open_cell : (v : Bool) (p next : ℕ) → next ≤ 13 → cell_in v (open_mark p next) ≡ kept (of_code p) next
 open_cell v p next few =
@@ -79,11 +76,7 @@ mark_told p next (some k) few =
 mark_told p next none few = let b = open_mark p next in rw (le-ltb b 8 (omega arith), lt-ltb b 128 (omega arith))
 
 pub mark_large : (class p next : ℕ) → 16 ≤ mark_of class p next
-mark_large class p next = go (ltb class 8)
-  where
-    go : (b : Bool) → 16 ≤ cond b (known_mark class next) (open_mark p next)
-    go true = omega arith
-    go false = omega arith
+mark_large class p next = grind (arith, nat_tests)
 
 -- a byte that tells a class ends in its code
 pub told_class : (b : ℕ) → told_in b < 8 → of_code b ≡ of_code (told_in b)
@@ -96,37 +89,19 @@ told_class b h = go (ltb b 8) (ltb b 128) h
 
 -- a byte that tells none
 pub untold_between : (b : ℕ) → told_in b ≡ 8 → (8 ≤ b) × (b < 128)
-untold_between b e = go (ltb b 8) refl (ltb b 128) refl e
-  where
-    go : (t : Bool) → ltb b 8 ≡ t → (u : Bool) → ltb b 128 ≡ u → cond t b (cond u 8 (b % 8)) ≡ 8 → (8 ≤ b) × (b < 128)
-    go true t u d e = let less = ltb-true b 8 t in absurd (omega arith)
-    go false t true d e = (ltb-false b 8 t, ltb-true b 128 d)
-    go false t false d e = absurd (omega arith)
+untold_between b e = grind (arith, nat_tests)
 
 pub untold_searched : (bytes : List ℕ) (s : ℕ) → told_in (get_or bytes s 0) ≡ 8 → 8 ≤ get_or (known_in bytes) s 0
 untold_searched bytes s untold =
     rw (get_or-map known_of bytes s 0, known_small (get_or bytes s 0) (untold_between (get_or bytes s 0) untold).0) (omega arith)
 
 pub told_small : (b : ℕ) → told_in b ≤ 8
-told_small b = go (ltb b 8) refl (ltb b 128)
-  where
-    go : (t : Bool) → ltb b 8 ≡ t → (u : Bool) → cond t b (cond u 8 (b % 8)) ≤ 8
-    go true e u = let less = ltb-true b 8 e in omega arith
-    go false e true = omega arith
-    go false e false = omega arith
+told_small b = grind (arith, nat_tests)
 
 pub begun_next : (g b : ℕ) → begun_from g b / 8 - 2 ≡ b / 8 - 2
 unfolding begun_from
-begun_next g b = go (ltb b 16) refl
-  where
-    go : (t : Bool) → ltb b 16 ≡ t → cond t (16 + code (unit (op_at g))) b / 8 - 2 ≡ b / 8 - 2
-    go true e = let less = ltb-true b 16 e in let small : code (unit (op_at g)) < 8 = code_lt (unit (op_at g)) in omega arith
-    go false e = refl
+begun_next g b = let small : code (unit (op_at g)) < 8 = code_lt (unit (op_at g)) in grind (arith, nat_tests)
 
 -- bytes of which none is visited
 pub fresh_known_of : (b : ℕ) → b ≤ 8 → known_of b ≡ b
-fresh_known_of b h = go (ltb b 8) refl
-  where
-    go : (t : Bool) → ltb b 8 ≡ t → cond t b 8 ≡ b
-    go true e = refl
-    go false e = let le = ltb-false b 8 e in omega arith
+fresh_known_of b h = grind (arith, nat_tests)

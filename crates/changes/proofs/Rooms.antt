@@ -5,18 +5,18 @@ use mathlib.Core.Path.{◌≡◌, sym, subst}
 use mathlib.Core.Bool.{Bool}
 use mathlib.Core.List.{List}
 use lib.ListN.{length}
+use Rattle.std.specs.Prelude.{Ok}
 use Rattle.netlist.specs.Formed.{Formed}
 use Rattle.netlist.specs.Decoded.{Decoded, decoded}
 use Rattle.netlist.proofs.Accepted.{formed}
 use Rattle.netlist.proofs.Decoded.{decoded_rows}
 use Rattle.changes.specs.declared.Task.{Task}
-use Rattle.changes.specs.declared.Listed.TheVariants.{Accepted}
 use Rattle.changes.specs.Lent.{Accepts, signals_of, signals_for}
 use Rattle.changes.specs.Refusals.{list_checked}
 use Rattle.changes.proofs.Accepted.{listed}
 
 -- an accepted card and its list, with a byte for each signal that the netlist says
-module _ {task : Task} {bytes : ℕ} (n l : List ℕ) (e : list_checked n l ≡ Accepted task) (told : signals_for n ≤ bytes) where
+module _ {task : Task} {bytes : ℕ} (n l : List ℕ) (e : list_checked n l ≡ Ok task) (told : signals_for n ≤ bytes) where
   shaped : Formed n task.shape
   shaped = formed n (listed n l e).netlist_accepted
 

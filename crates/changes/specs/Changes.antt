@@ -3,6 +3,7 @@ use Rattle.std.specs.Prelude.{ℕ, ◌+◌, ◌*◌, ◌/◌, ◌%◌, ◌^◌, 
 use Rattle.kung.specs.Class.{Class, c0, input_class}
 use Rattle.circuit.specs.Circuit.{Source, sources}
 use Rattle.words.specs.Words.{byte_at, word_at}
+pub use Rattle.spares.specs.Spares.{width_of, size_of}
 use Rattle.netlist.specs.Netlist.{inputs_of, outputs_of, card_of}
 use Rattle.changes.specs.declared.Layout.{Layout}
 
@@ -13,17 +14,17 @@ version_of l = word_at l 3
 abbrev pub changes_of : List ℕ → ℕ
 changes_of l = word_at l 9
 
+-- what version 1 has, or version 2
+abbrev pub by_version : (version one two : ℕ) → ℕ
+by_version version one two = cond (eqb version 2) two one
+
 -- "Version 2 of the list keeps at most 800 changes"
 abbrev pub most_changes : (version : ℕ) → ℕ
-most_changes version = cond (eqb version 2) 800 1000
+most_changes version = by_version version 1000 800
 
 -- "and adds to each change two bit rows over the outputs": over how many outputs, none in version 1
 abbrev pub declared_of : (version outputs : ℕ) → ℕ
-declared_of version outputs = cond (eqb version 2) outputs 0
-
--- "V being I / 8 rounded up"; "each of O / 8 bytes rounded up": the bytes of so many bits
-abbrev pub width_of : (bits : ℕ) → ℕ
-width_of bits = (bits + 7) / 8
+declared_of version outputs = by_version version 0 outputs
 
 -- the version of a list, the bytes of a vector, and those of a row of declared ends
 abbrev pub layout_of : (version inputs outputs : ℕ) → Layout
@@ -33,10 +34,7 @@ abbrev pub layout_in : (netlist list : List ℕ) → Layout
 layout_in n l = layout_of (version_of l) (inputs_of n) (outputs_of n)
 
 -- "A change is a first and a second vector, each of V bytes"; in version 2 "for declared start and declared end [...] two rows follow the second
--- vector". The bytes of a change, and the places of its parts.
-abbrev pub size_of : (width row : ℕ) → ℕ
-size_of width row = 2 * width + 2 * row
-
+-- vector". The places of its parts.
 pub data Part : Type 0 where
   first second starts ends : Part
 

@@ -1,14 +1,13 @@
 -- What an accepted change list is: all that the layers above know of the check.
-use Rattle.std.specs.Prelude.{ℕ, ◌+◌, ◌*◌, ◌≤◌, ◌≡◌, List, ◌⊎◌, length}
+use Rattle.std.specs.Prelude.{ℕ, ◌+◌, ◌*◌, ◌≤◌, ◌≡◌, List, ◌⊎◌, length, Ok}
 use Rattle.words.specs.Words.{long_at}
 use Rattle.tie.specs.Tie.{tie_of}
 use Rattle.netlist.specs.Netlist.{checked}
-use Rattle.netlist.specs.declared.Checked.TheVariants as netlist
 use Rattle.changes.specs.declared.Task.{Task}
 use Rattle.changes.specs.Changes.{version_of, changes_of, layout_of, size_of}
 
 pub record ListFormed (n l : List ℕ) (task : Task) : Type 0 where
-  pub netlist_accepted : checked n ≡ netlist.Accepted task.shape
+  pub netlist_accepted : checked n ≡ Ok task.shape
   pub version_one_or_two : (version_of l ≡ 1) ⊎ (version_of l ≡ 2)
   pub changes_are : task.changes ≡ changes_of l
   pub changes_high : task.changes ≤ 1000

@@ -1,14 +1,13 @@
 -- The one hypothesis of the layers above: the check of these bytes gave this value, and decoded the netlist into these rows.
-use Rattle.std.specs.Prelude.{ℕ, ◌+◌, min, ◌≡◌, Bool, List}
+use Rattle.std.specs.Prelude.{ℕ, ◌+◌, min, ◌≡◌, Bool, List, Ok}
 use Rattle.netlist.specs.Netlist.{inputs_of, gates_of}
 use Rattle.netlist.specs.Decoded.{Decoded}
 use Rattle.netlist.specs.declared.Shape.{Shape}
 use Rattle.changes.specs.declared.Task.{Task}
-use Rattle.changes.specs.declared.Listed.TheVariants.{Accepted}
 use Rattle.changes.specs.Refusals.{list_checked}
 
 pub record Accepts (repeated : Bool) (netlist list rows : List ℕ) (task : Task) : Type 0 where
-  pub accepted : list_checked netlist list ≡ Accepted task
+  pub accepted : list_checked netlist list ≡ Ok task
   pub decoded : Decoded repeated netlist rows
 
 -- a card's signals

@@ -2,5 +2,4 @@ pub mod Changes
 pub mod Refusals
 pub mod Formed
 pub mod Proper
-pub mod Spares
 pub mod Lent

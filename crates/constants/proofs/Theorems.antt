@@ -1,5 +1,6 @@
 -- In an accepted change the constants are exactly the signals of class `0` or `1`, and one pass finds them. Assumes nothing.
 use Prim.Native.Nat.{ℕ, suc, ◌+◌, ◌<◌}
+use Rattle.std.specs.Prelude.{Ok}
 use mathlib.Core.Path.{◌≡◌}
 use mathlib.Core.Logic.{◌↔◌}
 use mathlib.Core.Bool.{true}
@@ -11,7 +12,6 @@ use Rattle.circuit.proofs.Laws.{sources_falling}
 use Rattle.netlist.specs.Netlist.{inputs_of, gates_of, card_of}
 use Rattle.netlist.proofs.Accepted.{formed}
 use Rattle.changes.specs.declared.Task.{Task}
-use Rattle.changes.specs.declared.Listed.TheVariants.{Accepted}
 use Rattle.changes.specs.Changes.{sources_of}
 use Rattle.changes.specs.Refusals.{list_checked}
 use Rattle.changes.proofs.Accepted.{listed}
@@ -21,7 +21,7 @@ use Rattle.constants.specs.Constants.{is_constant, follows, spread}
 use Rattle.constants.specs.Change.{constants_in}
 use Rattle.constants.proofs.Constants.{in_pass, spread_stays, one_pass, constants_exactly}
 
-module _ {task : Task} (n l : List ℕ) (accepted : list_checked n l ≡ Accepted task) (t : ℕ) where
+module _ {task : Task} (n l : List ℕ) (accepted : list_checked n l ≡ Ok task) (t : ℕ) where
   pub falling : Falling (sources_of n l t)
   unfolding sources_of
   falling = sources_falling (card_of n) c0 _ (formed n (listed n l accepted).netlist_accepted).well_formed

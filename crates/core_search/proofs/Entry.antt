@@ -1,19 +1,19 @@
 -- CORE for an output of a change: what the search is lent, and what is answered in each case. Assumes nothing.
-use Rattle.std.specs.Prelude.{◌≡◌, ℕ, zero, suc, ◌+◌, ◌-◌, ◌<◌, ◌≤◌, Bool, List, ◌∷◌, ◌++◌, length, take, drop, replicate}
+use Rattle.std.specs.Prelude.{◌≡◌, ℕ, zero, suc, ◌+◌, ◌-◌, ◌<◌, ◌≤◌, Bool, List, ◌∷◌, ◌++◌, length, take, drop, replicate, Ok, Err}
 use native.Mathlib.Omega.{arith}
 use mathlib.Core.Path.{refl, sym, ◌∙◌, ap, ap₂}
 use borrow.Author.Tests.{le-leb, lt-leb}
 use lib.ListN.{take-append-drop}
 use lib.Seq.{take-append-add, drop_at}
-use Rattle.kung.specs.Lookup.{search_table}
 use Rattle.kung.proofs.Listed.{length_tab}
-use Rattle.words.specs.Refusal.{refuse}
+use Rattle.refusals.specs.Refusal.{refuse}
+use Rattle.refusals.specs.declared.Refusal.{Refusal}
+use Rattle.refusals.specs.declared.Refusal.TheVariants.{NoChange, NoOutput}
 use Rattle.netlist.specs.Netlist.{inputs_of, gates_of}
 use Rattle.netlist.specs.Formed.{Formed}
 use Rattle.netlist.proofs.Accepted.{formed}
 use Rattle.changes.specs.declared.Layout.{Layout}
 use Rattle.changes.specs.declared.Task.{Task}
-use Rattle.changes.specs.declared.Listed.TheVariants as list
 use Rattle.changes.specs.Changes.{layout_in, input_class_at, sources_of}
 use Rattle.changes.specs.Formed.{ListFormed}
 use Rattle.changes.specs.Lent.{Accepts, signals_of}
@@ -21,15 +21,12 @@ use Rattle.changes.specs.Refusals.{list_checked}
 use Rattle.changes.proofs.Accepted.{listed, laid}
 use Rattle.inputs.specs.Written.{input_codes, code_at}
 use Rattle.inputs.proofs.Laws.{drop_replicate}
-use Rattle.search.specs.Search.{clean, hazardous, Verdict, search}
-use Rattle.core_search.specs.declared.Cored.TheVariants.{Refused}
+use Rattle.search.specs.Search.{search}
 use Rattle.visit.specs.Source.{source_from}
-use Rattle.visit.specs.Found.{found_of}
 use Rattle.visit.specs.Lent.{inputs_known}
 use Rattle.outputs.specs.Lent.{OutputsReady}
 use Rattle.outputs.proofs.Ready.{outputs_ready}
-use Rattle.core_search.specs.Core.{answered, answered_with, search_of, core_from, core_answer}
-use Rattle.core_search.specs.Codes.{answered_by}
+use Rattle.core_search.specs.Core.{Cored, answered_with, search_of, core_from, core_answer}
 use Rattle.core_search.specs.Lent.{NoneKnown}
 use Rattle.core_search.proofs.Cards.{sources_known, known_length, known_below, known_afresh}
 
@@ -80,12 +77,11 @@ module _ {repeated : Bool} (n l rows : List ℕ) (task : Task) (a : Accepts repe
       ∙ sym (ap₂ ◌+◌ card_formed.inputs_are card_formed.gates_are)
 
   -- so the outputs can be searched
-  pub searchable : {table : List ℕ} → table ≡ search_table → (k : List ℕ) → k ≡ known → (room : ℕ) → task.shape.outputs ≤ room
-      → OutputsReady table rows k task.shape room
-  searchable is k e room enough =
+  pub searchable : (k : List ℕ) → k ≡ known → (room : ℕ) → task.shape.outputs ≤ room → OutputsReady rows k task.shape room
+  searchable k e room enough =
       let v = input_class_at l (layout_in n l) t in
       rw e
-      (outputs_ready n l rows task a is known known_all (known_afresh n rows a.decoded v)
+      (outputs_ready n l rows task a known known_all (known_afresh n rows a.decoded v)
       (λ i h. known_below n rows a.decoded v i (omega (arith, card_formed.inputs_are))) room enough)
 
   -- the search runs on the card of the definition
@@ -93,24 +89,22 @@ module _ {repeated : Bool} (n l rows : List ℕ) (task : Task) (a : Accepts repe
   unfolding sources_of
   search_is k e w s = ap (λ k. search (source_from rows k) w s) e ∙ ap (λ src. search src w s) (sources_known n rows a.decoded (input_class_at l (layout_in n l) t))
 
--- what the code finds is what the definition answers
-pub found_answered : (v : Verdict) (gates pins : ℕ) → let found = found_of (record { verdict = v; gates = gates; pins = pins }) in
-    answered_by found.verdict found.gates found.pins ≡ answered v gates pins
-found_answered (clean k) gates pins = refl
-found_answered hazardous gates pins = refl
-
 module _ (n l : List ℕ) (change output : ℕ) where
-  pub refused_list : (number place : ℕ) → list_checked n l ≡ list.Refused number place → Refused number place ≡ core_answer n l change output
-  unfolding core_answer core_from refuse
-  refused_list number place e = rw e
+  -- a refusal is answered
+  abbrev Refused : Refusal → Type 0
+  Refused refusal = ◌≡◌ {A = Cored} (Err refusal) (core_answer n l change output)
 
-  module _ {task : Task} (e : list_checked n l ≡ list.Accepted task) where
-    pub refused_change : task.changes ≤ change → Refused 18 0 ≡ core_answer n l change output
+  pub refused_list : (refusal : Refusal) → list_checked n l ≡ Err refusal → Refused refusal
+  unfolding core_answer core_from
+  refused_list refusal e = rw e
+
+  module _ {task : Task} (e : list_checked n l ≡ Ok task) where
+    pub refused_change : task.changes ≤ change → Refused NoChange
     unfolding core_answer core_from refuse
     refused_change late = rw (e, le-leb task.changes change late)
 
     module _ (early : change < task.changes) where
-      pub refused_output : task.shape.outputs ≤ output → Refused 19 0 ≡ core_answer n l change output
+      pub refused_output : task.shape.outputs ≤ output → Refused NoOutput
       unfolding core_answer core_from refuse
       refused_output none = rw (e, lt-leb task.changes change early, le-leb task.shape.outputs output none)
 

@@ -1,5 +1,5 @@
 -- CORE is right: for every accepted netlist and list, each change and output. Assumes nothing.
-use Rattle.std.specs.Prelude.{◌≡◌, ℕ, ◌+◌, ◌<◌, ◌≤◌, List}
+use Rattle.std.specs.Prelude.{◌≡◌, ℕ, ◌+◌, ◌<◌, ◌≤◌, List, Ok}
 use native.Mathlib.Omega.{arith}
 use mathlib.Core.Path.{sym, ◌∙◌, ap}
 use Rattle.kung.specs.Class.{c0}
@@ -9,7 +9,6 @@ use Rattle.circuit.proofs.Laws.{sources_falling}
 use Rattle.netlist.specs.Netlist.{output_at, card_of}
 use Rattle.netlist.proofs.Accepted.{formed}
 use Rattle.changes.specs.declared.Task.{Task}
-use Rattle.changes.specs.declared.Listed.TheVariants as list
 use Rattle.changes.specs.Changes.{layout_in, input_class_at, sources_of}
 use Rattle.changes.specs.Refusals.{list_checked}
 use Rattle.changes.proofs.Accepted.{listed}
@@ -19,11 +18,11 @@ use Rattle.search.specs.Cone.{cone_pins}
 use Rattle.search.proofs.Right.{search_right}
 use Rattle.search.proofs.Cones.{search_cone}
 use Rattle.search.proofs.Counts.{search_gates}
-use Rattle.core_search.specs.Core.{answered, search_of, core_answer}
+use Rattle.core_search.specs.Core.{answered_with, search_of, core_answer}
 use Rattle.core_search.proofs.Cards.{cone_most}
 use Rattle.core_search.proofs.Entry.{answers}
 
-module _ {task : Task} (n l : List ℕ) (accepted : list_checked n l ≡ list.Accepted task) (change output : ℕ) where
+module _ {task : Task} (n l : List ℕ) (accepted : list_checked n l ≡ Ok task) (change output : ℕ) where
   abbrev wanted : ℕ
   wanted = wanted_in n l change output
 
@@ -51,10 +50,13 @@ module _ {task : Task} (n l : List ℕ) (accepted : list_checked n l ≡ list.Ac
   -- clean with its class exactly where that is in the wanted set
   pub core_right : change < task.changes → output < task.shape.outputs
       → core_answer n l change output
-      ≡ answered (judged wanted (value gate_class c0 (sources_of n l change) (output_at n output))) (search_of n l change output).gates
-      (search_of n l change output).pins
+      ≡ answered_with (record {
+        verdict = judged wanted (value gate_class c0 (sources_of n l change) (output_at n output));
+        gates = (search_of n l change output).gates;
+        pins = (search_of n l change output).pins;
+      })
   unfolding search_of
   core_right early is =
       sym (answers n l change output accepted early is)
-      ∙ ap (λ v. answered v (search_of n l change output).gates (search_of n l change output).pins)
+      ∙ ap (λ v. answered_with (record { verdict = v; gates = (search_of n l change output).gates; pins = (search_of n l change output).pins }))
       (search_right (sources_of n l change) falling wanted (output_at n output))

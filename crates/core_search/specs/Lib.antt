@@ -1,3 +1,2 @@
 pub mod Core
-pub mod Codes
 pub mod Lent

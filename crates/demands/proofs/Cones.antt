@@ -1,29 +1,22 @@
 -- Document 02, "Job 8": CORE's pins are at most its output's cone's. Assumes nothing.
-use Rattle.std.proofs.Common.{◌≡◌, ℕ, ◌+◌, ◌<◌, ◌≤◌, true, false, ◌↔◌, List, sym, refl, ap, ◌∙◌, arith}
+use Rattle.std.proofs.Common.{◌≡◌, ℕ, ◌+◌, ◌<◌, ◌≤◌, true, false, ◌↔◌, List, sym, ap, ◌∙◌, arith}
 use mathlib.Core.Option.{some}
 use Rattle.netlist.specs.Netlist.{inputs_of, outputs_of, output_at, card_of}
-use Rattle.search.specs.Search.{Verdict, clean, hazardous}
 use Rattle.search.specs.Cone.{in_cone, cone_pins, PinPath}
 use Rattle.search.proofs.Cones.{input_empty, input_pins, reaches_path}
-use Rattle.core_search.specs.Core.{answered, search_of, core_answer}
+use Rattle.core_search.specs.Core.{search_of, core_answer}
 use Rattle.core_search.proofs.Cards.{cone_most}
 use Rattle.core_search.proofs.Entry.{answers}
 use Rattle.core_search.proofs.Theorems.{pins_in_cone}
 use Rattle.demands.specs.Demands.{Accepted, pins_by, CorePins}
 use Rattle.demands.proofs.Refusals.{form}
 
-answered_pins : (v : Verdict) (gates pins : ℕ) → pins_by (answered v gates pins) ≡ some pins
-answered_pins (clean k) gates pins = refl
-answered_pins hazardous gates pins = refl
-
 module _ (n l : List ℕ) (change : ℕ) (a : Accepted n l change) where
   -- the answer's pins are the search's
   searched : (output pins : ℕ) → output < outputs_of n → pins_by (core_answer n l change output) ≡ some pins → pins ≡ (search_of n l change output).pins
   searched output pins h e =
-      let found = search_of n l change output in
-      let same : some pins ≡ some found.pins =
-      sym e ∙ ap pins_by (sym (answers n l change output a.on.list_accepted_lem a.in_range (omega (arith, (form a.on).outputs_are))))
-      ∙ answered_pins found.verdict found.gates found.pins in
+      let same : some pins ≡ some (search_of n l change output).pins =
+      sym e ∙ ap pins_by (sym (answers n l change output a.on.list_accepted_lem a.in_range (omega (arith, (form a.on).outputs_are)))) in
       cc
 
   in_cone_lem : (output pins : ℕ) → output < outputs_of n → pins_by (core_answer n l change output) ≡ some pins → pins ≤ cone_pins (card_of n) (output_at n output)

@@ -1,31 +1,29 @@
 -- What is promised holds: the three demands and what requests added. Assumes nothing.
+use Rattle.std.specs.Prelude.{Ok, Err}
 use Rattle.std.proofs.Common.{◌≡◌, ℕ, ◌+◌, ◌<◌, ◌≤◌, Bool, true, false, ltb, leb, ◌⊎◌, ◌↔◌, List, length, sym, refl, ◌∙◌, subst, ap₂, inl, inr, true≢false, arith, ltb-true, le-ltb, lt-ltb, le-leb, leb-true}
 use borrow.Author.Tests.{lt-leb}
 use Rattle.kung.specs.Class.{Class, start, end, clean}
 use Rattle.circuit.specs.Settled.{settled}
-use Rattle.words.specs.Refusal.{refuse}
+use Rattle.refusals.specs.Refusal.{refuse}
+use Rattle.refusals.specs.declared.Refusal.TheVariants.{NoOutput, BufferShort}
 use Rattle.netlist.specs.Netlist.{inputs_of, gates_of, outputs_of, output_at, card_of, accepted}
 use Rattle.netlist.proofs.Accepted.{formed}
 use Rattle.netlist.proofs.Proper.{first_refusal, accepted→proper, proper→accepted}
-use Rattle.changes.specs.declared.Listed.{Listed}
-use Rattle.changes.specs.declared.Listed.TheVariants as list
 use Rattle.changes.specs.Changes.{version_of}
-use Rattle.changes.specs.Refusals.{list_checked}
+use Rattle.changes.specs.Refusals.{Listed, list_checked}
 use Rattle.changes.specs.Proper.{list_accepted}
 use Rattle.changes.proofs.Accepted.{listed}
 use Rattle.changes.proofs.Proper.{first_list_refusal, listed→proper, proper→listed}
 use Rattle.simulate.specs.Full as full
 use Rattle.simulate.specs.Full.{class_in, full_answer, full_buffer}
-use Rattle.simulate.specs.declared.Simulated.TheVariants as simulated
 use Rattle.simulate.proofs.Theorems.{starts, ends}
-use Rattle.search.specs.Search as search
-use Rattle.search.specs.Search.{Verdict, hazardous, Answer}
-use Rattle.core_search.specs.Core.{answered, answered_with, search_of, core_from, core_answer}
-use Rattle.core_search.specs.declared.Cored.TheVariants as cored
+use Rattle.search.specs.Search.{Answer}
+use Rattle.visit.specs.Found.{found_of}
+use Rattle.core_search.specs.Core.{search_of, core_from, core_answer}
 use Rattle.constants.specs.Change.{touched_in}
 use Rattle.forward.specs.Forward as forward
 use Rattle.forward.specs.Forward.{visited_in, forward_answer, forward_buffer}
-use Rattle.forward.specs.declared.Forwarded.TheVariants as forwarded
+use Rattle.forward.specs.declared.Forwarded.{Forwarded}
 use Rattle.bench.specs.Bench.{Event, signal_value, after, Complete}
 use Rattle.bench.specs.Claim.{Claim}
 use Rattle.bench.proofs.Theorem.{holds}
@@ -38,6 +36,7 @@ use Rattle.demands.specs.Demands.{
   declared_end,
   Method,
   Calls,
+  Numbers,
   Reading,
   Operations,
   CleanWith,
@@ -58,22 +57,22 @@ use Rattle.demands.proofs.Verdicts.{output_below, demand2}
 use Rattle.demands.proofs.Cones.{core_pins}
 
 -- each operation's answer is a chain of refusals
-full_chain : (change room : ℕ) (x : Listed) → chain simulated.Refused simulated.Done (λ k. ltb room (k.inputs + k.gates)) 20 change x ≡ full.full_from x change room
+full_chain : (change room : ℕ) (x : Listed) → chain (tt {0}) (λ k. ltb room (k.inputs + k.gates)) BufferShort change x ≡ full.full_from x change room
 unfolding full.full_from refuse
-full_chain change room (list.Refused number place) = refl
-full_chain change room (list.Accepted task) = refl
+full_chain change room (Err refusal) = refl
+full_chain change room (Ok task) = refl
 
-forward_chain : (change room touched visited : ℕ) (x : Listed)
-    → chain forwarded.Refused (forwarded.Done touched visited) (λ k. ltb room k.outputs) 20 change x ≡ forward.forward_from x change room (forwarded.Done touched visited)
+forward_chain : (change room : ℕ) (counts : Forwarded) (x : Listed)
+    → chain counts (λ k. ltb room k.outputs) BufferShort change x ≡ forward.forward_from x change room (Ok counts)
 unfolding forward.forward_from refuse
-forward_chain change room touched visited (list.Refused number place) = refl
-forward_chain change room touched visited (list.Accepted task) = refl
+forward_chain change room counts (Err refusal) = refl
+forward_chain change room counts (Ok task) = refl
 
 core_chain : (change output : ℕ) (found : Answer) (x : Listed)
-    → chain cored.Refused (answered_with found) (λ k. leb k.outputs output) 19 change x ≡ core_from x change output found
+    → chain (found_of found) (λ k. leb k.outputs output) NoOutput change x ≡ core_from x change output found
 unfolding core_from refuse
-core_chain change output found (list.Refused number place) = refl
-core_chain change output found (list.Accepted task) = refl
+core_chain change output found (Err refusal) = refl
+core_chain change output found (Ok task) = refl
 
 -- a test of numbers, both ways
 abbrev Decides : Bool → Type 0 → Type 0
@@ -98,40 +97,28 @@ module _ (n l : List ℕ) (change output : ℕ) (buffer : List ℕ) where
   none : (on : ListAccepted n l) → Decides (leb on.task.shape.outputs output) (outputs_of n ≤ output)
   none on = most on.task.shape.outputs output (outputs_of n) (form on).outputs_are
 
-  full_cases : Cases simulated.Refused simulated.Done n l change (λ k. ltb (length buffer) (k.inputs + k.gates)) 20 (length buffer < inputs_of n + gates_of n)
-  full_cases =
-      cases simulated.Refused simulated.Done (λ a b c d e. ((cc), (cc))) (λ a b e. let z : ◌≡◌ {A = ℕ} 0 1 = cc in omega arith) n l
-      (λ k. ltb (length buffer) (k.inputs + k.gates)) 20 change (length buffer < inputs_of n + gates_of n) (λ on. (short on).0) (λ on. (short on).1)
+  full_cases : Cases (tt {0}) (λ k. ltb (length buffer) (k.inputs + k.gates)) BufferShort change n l (length buffer < inputs_of n + gates_of n)
+  full_cases = cases (tt {0}) _ BufferShort change n l _ (λ on. (short on).0) (λ on. (short on).1)
 
-  forward_cases : Cases forwarded.Refused (forwarded.Done (touched_in n l change) (visited_in n l change)) n l change (λ k. ltb (length buffer) k.outputs) 20
-      (length buffer < outputs_of n)
-  forward_cases =
-      cases forwarded.Refused (forwarded.Done (touched_in n l change) (visited_in n l change)) (λ a b c d e. ((cc), (cc)))
-      (λ a b e. let z : ◌≡◌ {A = ℕ} 0 1 = cc in omega arith) n l (λ k. ltb (length buffer) k.outputs) 20 change (length buffer < outputs_of n) (λ on. (few on).0)
-      (λ on. (few on).1)
+  -- the forward method's counts
+  abbrev counts : Forwarded
+  counts = record { touched = touched_in n l change; visited = visited_in n l change }
 
-  never_found : (a b : ℕ) → cored.Refused a b ≡ answered_with (search_of n l change output) → ⊥
-  never_found a b = go (search_of n l change output).verdict
-    where
-      go : (v : Verdict) → cored.Refused a b ≡ answered v (search_of n l change output).gates (search_of n l change output).pins → ⊥
-      go (search.clean k) e = let z : ◌≡◌ {A = ℕ} 0 1 = cc in omega arith
-      go hazardous e = let z : ◌≡◌ {A = ℕ} 0 1 = cc in omega arith
+  forward_cases : Cases counts (λ k. ltb (length buffer) k.outputs) BufferShort change n l (length buffer < outputs_of n)
+  forward_cases = cases counts _ BufferShort change n l _ (λ on. (few on).0) (λ on. (few on).1)
 
-  core_cases : Cases cored.Refused (answered_with (search_of n l change output)) n l change (λ k. leb k.outputs output) 19 (outputs_of n ≤ output)
-  core_cases =
-      cases cored.Refused (answered_with (search_of n l change output)) (λ a b c d e. ((cc), (cc))) never_found n l (λ k. leb k.outputs output) 19 change (outputs_of n ≤ output)
-      (λ on. (none on).0) (λ on. (none on).1)
+  core_cases : Cases (found_of (search_of n l change output)) (λ k. leb k.outputs output) NoOutput change n l (outputs_of n ≤ output)
+  core_cases = cases (found_of (search_of n l change output)) _ NoOutput change n l _ (λ on. (none on).0) (λ on. (none on).1)
 
-  full_is : chain simulated.Refused simulated.Done (λ k. ltb (length buffer) (k.inputs + k.gates)) 20 change (list_checked n l) ≡ full_answer n l change buffer
+  full_is : chain (tt {0}) (λ k. ltb (length buffer) (k.inputs + k.gates)) BufferShort change (list_checked n l) ≡ full_answer n l change buffer
   unfolding full_answer
   full_is = full_chain change (length buffer) (list_checked n l)
 
-  forward_is : chain forwarded.Refused (forwarded.Done (touched_in n l change) (visited_in n l change)) (λ k. ltb (length buffer) k.outputs) 20 change (list_checked n l)
-      ≡ forward_answer n l change buffer
+  forward_is : chain counts (λ k. ltb (length buffer) k.outputs) BufferShort change (list_checked n l) ≡ forward_answer n l change buffer
   unfolding forward_answer
-  forward_is = forward_chain change (length buffer) (touched_in n l change) (visited_in n l change) (list_checked n l)
+  forward_is = forward_chain change (length buffer) counts (list_checked n l)
 
-  core_is : chain cored.Refused (answered_with (search_of n l change output)) (λ k. leb k.outputs output) 19 change (list_checked n l) ≡ core_answer n l change output
+  core_is : chain (found_of (search_of n l change output)) (λ k. leb k.outputs output) NoOutput change (list_checked n l) ≡ core_answer n l change output
   unfolding core_answer
   core_is = core_chain change output (search_of n l change output) (list_checked n l)
 
@@ -140,22 +127,22 @@ module _ (n l : List ℕ) (change output : ℕ) (buffer : List ℕ) where
   operations =
       record {
         full_done =
-            ((λ e. let h = full_cases.verdict.0 (full_is ∙ e) in (h.0, omega (arith, h.1))), λ h. sym full_is ∙ full_cases.verdict.1 (h.0, λ k. omega arith));
-        full_refused =
-            λ number place. ((λ e. (full_cases.refusal number place).0 (full_is ∙ e)), λ h. sym full_is ∙ (full_cases.refusal number place).1 h);
-        full_untouched = λ number place e. rw e;
+            ((λ e. let h = full_cases.answered.0 (full_is ∙ e) in (h.0, omega (arith, h.1))), λ h. sym full_is ∙ full_cases.answered.1 (h.0, λ k. omega arith));
+        full_refused = λ refusal. ((λ e. (full_cases.refused refusal).0 (full_is ∙ e)), λ h. sym full_is ∙ (full_cases.refused refusal).1 h);
+        full_untouched = λ refusal e. rw e;
         forward_done = (
-          (λ e. let h = forward_cases.verdict.0 (forward_is ∙ e) in (h.0, omega (arith, h.1))),
-          λ h. sym forward_is ∙ forward_cases.verdict.1 (h.0, λ k. omega arith),
+          (λ e. let h = forward_cases.answered.0 (forward_is ∙ e) in (h.0, omega (arith, h.1))),
+          λ h. sym forward_is ∙ forward_cases.answered.1 (h.0, λ k. omega arith),
         );
-        forward_refused =
-            λ number place. ((λ e. (forward_cases.refusal number place).0 (forward_is ∙ e)), λ h. sym forward_is ∙ (forward_cases.refusal number place).1 h);
-        forward_untouched = λ number place e. rw e;
+        forward_refused = λ refusal. ((λ e. (forward_cases.refused refusal).0 (forward_is ∙ e)), λ h. sym forward_is ∙ (forward_cases.refused refusal).1 h);
+        forward_untouched = λ refusal e. rw e;
         core_done =
-            ((λ e. let h = core_cases.verdict.0 (core_is ∙ e) in (h.0, omega (arith, h.1))), λ h. sym core_is ∙ core_cases.verdict.1 (h.0, λ k. omega arith));
-        core_refused =
-            λ number place. ((λ e. (core_cases.refusal number place).0 (core_is ∙ e)), λ h. sym core_is ∙ (core_cases.refusal number place).1 h);
+            ((λ e. let h = core_cases.answered.0 (core_is ∙ e) in (h.0, omega (arith, h.1))), λ h. sym core_is ∙ core_cases.answered.1 (h.0, λ k. omega arith));
+        core_refused = λ refusal. ((λ e. (core_cases.refused refusal).0 (core_is ∙ e)), λ h. sym core_is ∙ (core_cases.refused refusal).1 h);
       }
+
+numbers : Numbers
+numbers = record { no_change = (refl, refl); no_output = (refl, refl); buffer_short = (refl, refl) }
 
 reading : (n l : List ℕ) → Reading n l
 unfolding accepted list_accepted
@@ -264,7 +251,7 @@ module _ (n l : List ℕ) (change : ℕ) (a : Accepted n l change) where
 pub demands : Demands
 demands =
     record {
-      demand1 = record { reading = reading; operations = operations; opening = opening; step = step };
+      demand1 = record { numbers = numbers; reading = reading; operations = operations; opening = opening; step = step };
       demand2 = demand2;
       demand3 = demand3;
       core_pins = core_pins;

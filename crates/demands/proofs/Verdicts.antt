@@ -1,4 +1,5 @@
 -- Demand 2: every method's verdict is the class's by the wanted set, and the counts are the definitions'. Assumes nothing.
+use Rattle.std.specs.Prelude.{Ok}
 use Rattle.std.proofs.Common.{◌≡◌, ℕ, ◌+◌, ◌<◌, Bool, true, false, cond, ltb, leb, ◌↔◌, List, map, length, get_or, drop, sym, refl, ap, ◌∙◌, subst, ap₂, arith, eq-eqb, eqb-true}
 use mathlib.Core.Option.{some}
 use lib.ListN.{get_or-append}
@@ -11,30 +12,31 @@ use Rattle.kung.proofs.Listed.{length_tab}
 use Rattle.circuit.specs.Circuit.{given}
 use Rattle.circuit.proofs.Laws.{sources_input}
 use Rattle.circuit.proofs.Ends.{class_input, class_gate}
-use Rattle.words.specs.Refusal.{refuse}
+use Rattle.refusals.specs.Refusal.{refuse}
+use Rattle.refusals.specs.declared.Refusal.TheVariants.{NoChange, BufferShort}
 use Rattle.netlist.specs.Netlist.{inputs_of, gates_of, outputs_of, output_at, gate_kind, gate_pins, card_of}
 use Rattle.netlist.specs.Formed.{Formed}
 use Rattle.netlist.proofs.Accepted.{formed}
-use Rattle.changes.specs.declared.Listed.{Listed}
+use Rattle.changes.specs.Refusals.{Listed}
 use Rattle.changes.specs.Changes.{version_of, layout_in, class_at, input_class_at, sources_of}
 use Rattle.changes.proofs.Accepted.{listed}
 use Rattle.wanted.specs.Wanted.{wanted_in}
 use Rattle.wanted.proofs.Laws.{has_clean, has_declared}
-use Rattle.simulate.specs.Full.{class_in, codes, left, full_answer, full_buffer}
-use Rattle.simulate.specs.declared.Simulated.TheVariants as simulated
+use Rattle.simulate.specs.Full.{class_in, codes, done, left, full_answer, full_buffer}
 use Rattle.simulate.proofs.Theorems.{class_value, codes_length, codes_at}
 use Rattle.search.specs.Search as definition
-use Rattle.core_search.specs.Core.{answered, search_of, core_answer}
-use Rattle.core_search.specs.declared.Cored.TheVariants as cored
+use Rattle.visit.specs.declared.Verdict.TheVariants.{Clean, Hazardous}
+use Rattle.visit.specs.declared.Found.{Found}
+use Rattle.visit.specs.Found.{verdict_code, found_of}
+use Rattle.forward.specs.declared.Forwarded.{Forwarded}
+use Rattle.core_search.specs.Core.{Cored, answered_with, search_of, core_answer}
 use Rattle.core_search.proofs.Theorems.{core_right}
 use Rattle.outputs.specs.Outputs.{verdict_byte}
 use Rattle.constants.specs.Change.{constants_in, touched_in}
 use Rattle.constants.proofs.Constants.{known_given}
 use Rattle.constants.proofs.Theorems.{constants_are}
 use Rattle.forward.specs.Forward as method
-use Rattle.forward.specs.Forward.{visited_in, forward_bytes, output_search, forward_answer, forward_buffer}
-use Rattle.forward.specs.declared.Forwarded.{Forwarded}
-use Rattle.forward.specs.declared.Forwarded.TheVariants as forwarded
+use Rattle.forward.specs.Forward.{ForwardAnswer, counted, visited_in, forward_bytes, output_search, forward_answer, forward_buffer}
 use Rattle.forward.proofs.Theorems.{forward_clean, constant_output}
 use Rattle.demands.specs.Demands.{
   Accepted,
@@ -72,6 +74,15 @@ clean_with k s e = (
   λ w. ap (λ c. same c k) (sym (ap₂ input_class w.starts_so w.ends_so) ∙ clean_ends k w.is_clean_lem) ∙ same_refl k,
 )
 
+-- a verdict on a class is clean with the class's code alone
+judged_class : (w : ℕ) (k : Class) (class : ℕ) → Clean class ≡ verdict_code (definition.judged w k) → class ≡ code k
+unfolding definition.judged
+judged_class w k class = go (has w k)
+  where
+    go : (b : Bool) → Clean class ≡ verdict_code (cond b (definition.clean k) definition.hazardous) → class ≡ code k
+    go true e = cc
+    go false e = cc
+
 module _ (n l : List ℕ) (change : ℕ) (a : Accepted n l change) where
   abbrev form : Formed n a.on.task.shape
   form = formed n (listed n l a.on.list_accepted_lem).netlist_accepted
@@ -94,7 +105,7 @@ module _ (n l : List ℕ) (change : ℕ) (a : Accepted n l change) where
   pub output_below : (output : ℕ) → output < outputs_of n → output_at n output < inputs_of n + gates_of n
   output_below output h = omega (arith, form.output_below output (omega (arith, form.outputs_are)), form.inputs_are, form.gates_are)
 
-  full_codes : (buffer : List ℕ) → full_answer n l change buffer ≡ simulated.Done → (s : ℕ) → s < inputs_of n + gates_of n
+  full_codes : (buffer : List ℕ) → full_answer n l change buffer ≡ done → (s : ℕ) → s < inputs_of n + gates_of n
       → get_or (full_buffer n l change buffer) s 0 ≡ code (class_in n l change s)
   unfolding full_buffer
   full_codes buffer e s h =
@@ -105,7 +116,7 @@ module _ (n l : List ℕ) (change : ℕ) (a : Accepted n l change) where
   unfolding forward_bytes
   bytes_length = length_tab (λ o. verdict_byte (output_search n l change o).verdict) 0 (outputs_of n)
 
-  forward_byte : (buffer : List ℕ) (touched visited : ℕ) → forward_answer n l change buffer ≡ forwarded.Done touched visited
+  forward_byte : (buffer : List ℕ) (touched visited : ℕ) → forward_answer n l change buffer ≡ counted touched visited
       → (output : ℕ) → output < outputs_of n → get_or (forward_buffer n l change buffer) output 0 ≡ get_or (forward_bytes n l change) output 0
   unfolding forward_buffer
   forward_byte buffer touched visited e output h =
@@ -113,19 +124,20 @@ module _ (n l : List ℕ) (change : ℕ) (a : Accepted n l change) where
       ∙ get_or-append (forward_bytes n l change) (drop (length (forward_bytes n l change)) buffer) 0 output (rw bytes_length h)
 
   -- CORE's answer by the class
-  core_is : (output : ℕ) → output < outputs_of n
-      → core_answer n l change output ≡ answered (definition.judged (wanted output) (kind output)) (search_of n l change output).gates (search_of n l change output).pins
+  abbrev answer_by : ℕ → definition.Verdict → Cored
+  answer_by output verdict = answered_with (record { verdict = verdict; gates = (search_of n l change output).gates; pins = (search_of n l change output).pins })
+
+  core_is : (output : ℕ) → output < outputs_of n → core_answer n l change output ≡ answer_by output (definition.judged (wanted output) (kind output))
   core_is output h =
       core_right n l a.on.list_accepted_lem change output a.in_range (omega (arith, form.outputs_are))
-      ∙ ap (λ k. answered (definition.judged (wanted output) k) (search_of n l change output).gates (search_of n l change output).pins)
-      (sym (class_value n l change (output_at n output)))
+      ∙ ap (λ k. answer_by output (definition.judged (wanted output) k)) (sym (class_value n l change (output_at n output)))
 
   -- a verdict on a class is clean exactly where the wanted set has it
-  judged_by : (w : ℕ) (k : Class) (gates pins : ℕ) → clean_by (answered (definition.judged w k) gates pins) ≡ some (has w k)
+  judged_by : (output : ℕ) (w : ℕ) (k : Class) → clean_by (answer_by output (definition.judged w k)) ≡ some (has w k)
   unfolding definition.judged
-  judged_by w k gates pins = go (has w k)
+  judged_by output w k = go (has w k)
     where
-      go : (b : Bool) → clean_by (answered (cond b (definition.clean k) definition.hazardous) gates pins) ≡ some b
+      go : (b : Bool) → clean_by (answer_by output (cond b (definition.clean k) definition.hazardous)) ≡ some b
       go true = refl
       go false = refl
 
@@ -140,47 +152,39 @@ module _ (n l : List ℕ) (change : ℕ) (a : Accepted n l change) where
       sym c.4
       ∙ iff→≡ _ _ (λ b. exactly.0 (sym e ∙ eqb-true _ 0 b)) (λ k. eq-eqb _ 0 (e ∙ exactly.1 k))
   verdicts core output h called c =
-      let e : some called ≡ some (has (wanted output) (kind output)) = sym c ∙ ap clean_by (core_is output h) ∙ judged_by (wanted output) (kind output) _ _ in
+      let e : some called ≡ some (has (wanted output) (kind output)) = sym c ∙ ap clean_by (core_is output h) ∙ judged_by output (wanted output) (kind output) in
       cc
 
-  core_clean : (output class gates pins : ℕ) → output < outputs_of n → core_answer n l change output ≡ cored.Clean class gates pins
+  found_is : (output : ℕ) → output < outputs_of n → (found : Found) → core_answer n l change output ≡ Ok found
+      → found ≡ found_of (record { verdict = definition.judged (wanted output) (kind output); gates = (search_of n l change output).gates; pins = (search_of n l change output).pins })
+  found_is output h found e = let same = sym e ∙ core_is output h in cc
+
+  core_clean : (output class gates pins : ℕ) → output < outputs_of n → core_answer n l change output ≡ Ok (record { verdict = Clean class; gates = gates; pins = pins })
       → (class ≡ code (kind output)) × (gates ≡ (search_of n l change output).gates) × (pins ≡ (search_of n l change output).pins)
-  unfolding definition.judged
-  core_clean output class gates pins h e = go (has (wanted output) (kind output)) (sym e ∙ core_is output h)
-    where
-      go : (b : Bool)
-          → cored.Clean class gates pins
-          ≡ answered (cond b (definition.clean (kind output)) definition.hazardous) (search_of n l change output).gates (search_of n l change output).pins
-          → (class ≡ code (kind output)) × (gates ≡ (search_of n l change output).gates) × (pins ≡ (search_of n l change output).pins)
-      go true d = ((cc), (cc), (cc))
-      go false d = let z : ◌≡◌ {A = ℕ} 0 1 = cc in absurd (omega arith)
+  core_clean output class gates pins h e =
+      let same = found_is output h _ e in
+      (judged_class (wanted output) (kind output) class (ap (λ f. f.verdict) same), ap (λ f. f.gates) same, ap (λ f. f.pins) same)
 
-  core_hazardous : (output gates pins : ℕ) → output < outputs_of n → core_answer n l change output ≡ cored.Hazardous gates pins
+  core_hazardous : (output gates pins : ℕ) → output < outputs_of n → core_answer n l change output ≡ Ok (record { verdict = Hazardous; gates = gates; pins = pins })
       → (gates ≡ (search_of n l change output).gates) × (pins ≡ (search_of n l change output).pins)
-  unfolding definition.judged
-  core_hazardous output gates pins h e = go (has (wanted output) (kind output)) (sym e ∙ core_is output h)
-    where
-      go : (b : Bool)
-          → cored.Hazardous gates pins
-          ≡ answered (cond b (definition.clean (kind output)) definition.hazardous) (search_of n l change output).gates (search_of n l change output).pins
-          → (gates ≡ (search_of n l change output).gates) × (pins ≡ (search_of n l change output).pins)
-      go true d = let z : ◌≡◌ {A = ℕ} 0 1 = cc in absurd (omega arith)
-      go false d = ((cc), (cc))
+  core_hazardous output gates pins h e = let same = found_is output h _ e in (ap (λ f. f.gates) same, ap (λ f. f.pins) same)
 
-  forward_counts : (buffer : List ℕ) (touched visited : ℕ) → forward_answer n l change buffer ≡ forwarded.Done touched visited
+  forward_counts : (buffer : List ℕ) (touched visited : ℕ) → forward_answer n l change buffer ≡ counted touched visited
       → (touched ≡ touched_in n l change) × (visited ≡ visited_in n l change)
   unfolding forward_answer method.forward_from refuse
   forward_counts buffer touched visited e =
       go (leb a.on.task.changes change) (ltb (length buffer) a.on.task.shape.outputs) (sym (ap judge a.on.list_accepted_lem) ∙ e)
     where
-      judge : Listed → Forwarded
-      judge x = method.forward_from x change (length buffer) (forwarded.Done (touched_in n l change) (visited_in n l change))
+      judge : Listed → ForwardAnswer
+      judge x = method.forward_from x change (length buffer) (counted (touched_in n l change) (visited_in n l change))
 
-      go : (b d : Bool) → refuse forwarded.Refused b 18 0 (refuse forwarded.Refused d 20 0 (forwarded.Done (touched_in n l change) (visited_in n l change))) ≡ forwarded.Done touched visited
+      go : (b d : Bool) → refuse b NoChange (refuse d BufferShort (counted (touched_in n l change) (visited_in n l change))) ≡ counted touched visited
           → (touched ≡ touched_in n l change) × (visited ≡ visited_in n l change)
-      go true d h = let z : ◌≡◌ {A = ℕ} 0 1 = cc in absurd (omega arith)
-      go false true h = let z : ◌≡◌ {A = ℕ} 0 1 = cc in absurd (omega arith)
-      go false false h = ((cc), (cc))
+      go true d h = cc
+      go false true h = cc
+      go false false h =
+          let same : ◌≡◌ {A = Forwarded} (record { touched = touched; visited = visited }) (record { touched = touched_in n l change; visited = visited_in n l change }) = cc in
+          (ap (λ c. c.touched) same, ap (λ c. c.visited) same)
 
   -- by the list's version
   pub wanted_one : version_of l ≡ 1 → (output : ℕ) (k : Class) → has (wanted output) k ≡ clean k

@@ -1,35 +1,28 @@
 -- Demand 1 of the gate walk: opening one, and a step of any. Assumes nothing.
-use Rattle.std.proofs.Common.{◌≡◌, ℕ, ◌<◌, ◌≤◌, Bool, true, false, not, ◌&&◌, ◌||◌, leb, ◌⊎◌, ◌↔◌, List, length, sym, refl, ap, ◌∙◌, inl, inr, arith, Bor, leb-false, leb-true}
+use Rattle.std.specs.Prelude.{Option, Some, None, Ok}
+use Rattle.std.proofs.Common.{◌≡◌, ℕ, ◌<◌, ◌≤◌, Bool, true, false, not, ◌&&◌, leb, ◌⊎◌, ◌↔◌, List, length, sym, refl, ap, ◌∙◌, inl, inr, arith, Bor, leb-false, leb-true}
 use mathlib.Core.Bool.{false≢true}
 use Rattle.words.specs.Words.{outside}
-use Rattle.words.proofs.Laws.{within}
+use Rattle.std.proofs.lemmas.Bool.Decides.{nat_tests}
 use Rattle.records.specs.Records.{kind_at, count_at, past_record, no_kind, least_pins, most_pins, unfit}
 use Rattle.records.proofs.Meanings.{least_some, most_eight}
 use Rattle.netlist.specs.Netlist.{gates_of, place_of, shape_of, accepted, checked}
 use Rattle.netlist.proofs.Accepted.{formed}
 use Rattle.netlist.proofs.Proper.{first_refusal}
 use Rattle.walk.specs.declared.Walk.{Walk}
-use Rattle.walk.specs.declared.Found.{Found}
-use Rattle.walk.specs.declared.Found.TheVariants.{Whole, Nothing}
-use Rattle.walk.specs.Walk.{whole, found, gates_in, opened}
+use Rattle.walk.specs.Walk.{whole, found, walk_of, opened, opened_by}
 use Rattle.walk.proofs.Laws.{whole_formed, whole_room, found_none, found_no_record, found_record, record_found}
 use Rattle.walk.proofs.Theorems.{finds, none, empty_none, hands_back, refused_none}
 use Rattle.demands.specs.Demands.{GivesNone, GivesRecord, Opening, WholeRecord, Step}
 
 -- a kind, and a pin count that it takes
 unfit_within : (kind count : ℕ) → unfit kind count ≡ false → ((1 ≤ kind) × (kind ≤ 6)) × ((least_pins kind ≤ count) × (count ≤ most_pins kind))
-unfolding unfit no_kind
-unfit_within kind count e = go (no_kind kind) refl e
-  where
-    go : (b : Bool) → outside 1 6 kind ≡ b → b || outside (least_pins kind) (most_pins kind) count ≡ false
-        → ((1 ≤ kind) × (kind ≤ 6)) × ((least_pins kind ≤ count) × (count ≤ most_pins kind))
-    go true _ h = absurd (false≢true (sym h))
-    go false d h = (within 1 6 kind d, within (least_pins kind) (most_pins kind) count h)
+unfolding unfit no_kind outside
+unfit_within kind count e = grind (arith, nat_tests)
 
 -- a record is whole by the walk's test exactly where it is by the sentence
 module _ (n : List ℕ) (place : ℕ) where
   whole_fit : whole n place ≡ true → unfit (kind_at n place) (count_at n place) ≡ false
-  unfolding whole
   whole_fit e = go (unfit (kind_at n place) (count_at n place)) e
     where
       go : (b : Bool) → not b && leb (past_record n place) (length n) ≡ true → b ≡ false
@@ -56,16 +49,14 @@ module _ (n : List ℕ) (place : ℕ) where
 
 module _ (w : Walk) where
   -- what a step that gives a record finds
-  given : GivesRecord w → found w ≡ Whole (past_record w.netlist.now w.place)
-  unfolding found
+  given : GivesRecord w → found w ≡ Some (past_record w.netlist.now w.place)
   given some = go (found w) refl
     where
-      go : (f : Found) → found w ≡ f → f ≡ Whole (past_record w.netlist.now w.place)
-      go (Whole past) e = ap Whole (record_found w.netlist.now w.place w.number w.count past e).2
-      go Nothing e = absurd (some (none w e).0)
+      go : (f : Option ℕ) → found w ≡ f → f ≡ Some (past_record w.netlist.now w.place)
+      go (Some past) e = ap Some (record_found w.netlist.now w.place w.number w.count past e).2
+      go None e = absurd (some (none w e).0)
 
   none_when : GivesNone w → (w.count ≤ w.number) ⊎ (WholeRecord w.netlist.now w.place → ⊥)
-  unfolding found
   none_when h = go (leb w.count w.number) (whole w.netlist.now w.place) refl refl
     where
       go : (a b : Bool) → leb w.count w.number ≡ a → whole w.netlist.now w.place ≡ b
@@ -75,11 +66,9 @@ module _ (w : Walk) where
       go false true left e =
           let f = found_record w.netlist.now w.place w.number w.count (leb-false w.count w.number left) e in
           let d = empty_none w h in
-          let z : ◌≡◌ {A = ℕ} 0 1 = cc in
-          absurd (omega arith)
+          cc
 
   when_none : (w.count ≤ w.number) ⊎ (WholeRecord w.netlist.now w.place → ⊥) → GivesNone w
-  unfolding found
   when_none (inl all) = (none w (sym (found_none w.netlist.now w.place w.number w.count all))).0
   when_none (inr unread) = go (whole w.netlist.now w.place) refl
     where
@@ -97,8 +86,8 @@ module _ (w : Walk) where
       }
 
 module _ (s : Bor (List ℕ)) where
-  carries : checked s.now ≡ accepted s.now → (opened s).walk ≡ record { netlist = s; number = 0; place = 11; count = gates_of s.now }
-  unfolding opened gates_in accepted shape_of
+  carries : checked s.now ≡ accepted s.now → opened s ≡ Ok (record { netlist = s; number = 0; place = 11; count = gates_of s.now })
+  unfolding accepted shape_of
   carries e = rw e
 
   -- gate 0's record is whole
@@ -106,20 +95,20 @@ module _ (s : Bor (List ℕ)) where
   unfolding accepted shape_of place_of
   first_whole e some = (whole_exactly s.now 11).0 (whole_formed s.now 11 ((formed s.now e).records 0 some))
 
-  first_step : checked s.now ≡ accepted s.now → 0 < gates_of s.now → GivesRecord (opened s).walk
-  first_step e some h = go ((step _).gives_none.0 (rw (carries e) at h))
+  first_step : checked s.now ≡ accepted s.now → 0 < gates_of s.now → GivesRecord (walk_of s)
+  first_step e some h = go ((step (walk_of s)).gives_none.0 h)
     where
       go : (gates_of s.now ≤ 0) ⊎ (WholeRecord s.now 11 → ⊥) → ⊥
       go (inl all) = omega arith
       go (inr unread) = unread (first_whole e some)
 
   pub opening : Opening s
-  unfolding opened accepted
+  unfolding accepted
   opening =
       record {
-        checks = first_refusal s.now;
+        checks = ap (opened_by s) (first_refusal s.now);
         carries = carries;
-        refused = λ number place e. (none _ (refused_none s number place e)).0;
+        refused = refused_none s;
         hands_back = λ e. hands_back s e;
         first_step = first_step;
       }

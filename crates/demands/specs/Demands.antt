@@ -1,5 +1,5 @@
 -- What is promised, in one file: the three demands and what requests added, over the very definitions that the entry points' contracts cite.
-use Rattle.std.specs.Prelude.{◌≡◌, ℕ, ◌+◌, ◌<◌, ◌≤◌, Bool, true, false, ◌⊎◌, ◌↔◌, List, [], ◌++◌, map, length, ◌==◌, slice_index}
+use Rattle.std.specs.Prelude.{◌≡◌, ℕ, ◌+◌, ◌<◌, ◌≤◌, Bool, true, false, ◌⊎◌, ◌↔◌, List, ◌++◌, map, length, ◌==◌, slice_index, Ok, Err, Some, None}
 use Rattle.std.proofs.Math.Option.{Option, none, some}
 use Rattle.std.specs.Borrow.{Bor}
 use Rattle.kung.specs.Class.{Class, code, of_code, start, end, clean, input_class}
@@ -9,31 +9,30 @@ use Rattle.circuit.specs.Settled.{settled}
 use Rattle.records.specs.Records.{kind_at, count_at, past_record, least_pins, most_pins}
 use Rattle.netlist.specs.Netlist.{inputs_of, gates_of, outputs_of, output_at, gate_kind, gate_pins, pin_total, card_of, accepted, checked}
 use Rattle.netlist.specs.Proper.{Proper, conditions, first_met}
-use Rattle.netlist.specs.declared.Checked.TheVariants as netlist
+use Rattle.refusals.specs.declared.Refusal.{Refusal}
+use Rattle.refusals.specs.declared.Refusal.TheVariants.{NoChange, NoOutput, BufferShort}
+use Rattle.refusals.specs.Refusal.{number_of, place_of}
 use Rattle.changes.specs.Changes.{version_of, layout_in, first, second, starts, ends, bit_of}
 use Rattle.changes.specs.Refusals.{list_checked}
 use Rattle.changes.specs.Proper.{ProperList, list_conditions, list_accepted}
-use Rattle.changes.specs.declared.Listed.TheVariants as list
 use Rattle.changes.specs.declared.Task.{Task}
-use Rattle.simulate.specs.Full.{class_in, full_answer, full_buffer}
-use Rattle.simulate.specs.declared.Simulated.TheVariants as simulated
+use Rattle.simulate.specs.Full.{class_in, done, full_answer, full_buffer}
 use Rattle.wanted.specs.Wanted.{wanted_in}
 use Rattle.search.specs.Search.{Answer, judged}
 use Rattle.search.specs.Cone.{in_cone, cone_pins, PinPath}
-use Rattle.core_search.specs.Core.{answered_with, search_of, core_answer}
-use Rattle.core_search.specs.declared.Cored.{Cored}
-use Rattle.core_search.specs.declared.Cored.TheVariants as cored
+use Rattle.visit.specs.declared.Verdict.{Verdict}
+use Rattle.visit.specs.declared.Verdict.TheVariants.{Clean, Hazardous}
+use Rattle.core_search.specs.Core.{Cored, answered_with, search_of, core_answer}
 use Rattle.constants.specs.Change.{constants_in, touched_in}
-use Rattle.forward.specs.Forward.{output_search, visited_in, forward_answer, forward_buffer}
-use Rattle.forward.specs.declared.Forwarded.TheVariants as forwarded
+use Rattle.forward.specs.Forward.{counted, output_search, visited_in, forward_answer, forward_buffer}
 use Rattle.walk.specs.declared.Walk.{Walk}
-use Rattle.walk.specs.Walk.{part, handed, stepped, opened, HandsBack}
+use Rattle.walk.specs.Walk.{part, handed, stepped, walk_of, opened, opened_by, HandsBack}
 use Rattle.bench.specs.Bench.{Event, signal_value, after, AllowedFrom, Order, Complete, GateAfterGate, needs}
 
 -- an accepted netlist and list
 pub record ListAccepted (n l : List ℕ) : Type 0 where
   pub task : Task
-  pub list_accepted_lem : list_checked n l ≡ list.Accepted task
+  pub list_accepted_lem : list_checked n l ≡ Ok task
 
 -- and a change of theirs
 pub record Accepted (n l : List ℕ) (change : ℕ) : Type 0 where
@@ -60,10 +59,13 @@ pub data Method : Type 0 where
   full forward core : Method
 
 -- CORE's answer as a verdict: clean or not, or none where it is a refusal
+abbrev pub is_clean : Verdict → Bool
+is_clean (Clean class) = true
+is_clean Hazardous = false
+
 abbrev pub clean_by : Cored → Option Bool
-clean_by (cored.Clean class gates pins) = some true
-clean_by (cored.Hazardous gates pins) = some false
-clean_by (cored.Refused number place) = none
+clean_by (Ok found) = some (is_clean found.verdict)
+clean_by (Err refusal) = none
 
 -- "Full simulation calls an output clean when its signal's code is a clean class, the forward method by the byte 0, CORE by its answer; otherwise
 -- they call it hazardous. A refused call gives no verdict."; "For a version 2 list full simulation calls an output clean when its signal's code is the
@@ -71,10 +73,10 @@ clean_by (cored.Refused number place) = none
 -- clean.
 abbrev pub Calls : Method → (n l : List ℕ) → (change output : ℕ) → Bool → Type 0
 Calls full n l change output called =
-    (buffer : List ℕ) × (full_answer n l change buffer ≡ simulated.Done)
+    (buffer : List ℕ) × (full_answer n l change buffer ≡ done)
     × (has (wanted_in n l change output) (of_code (slice_index (full_buffer n l change buffer) (output_at n output))) ≡ called)
 Calls forward n l change output called =
-    (buffer : List ℕ) × (touched : ℕ) × (visited : ℕ) × (forward_answer n l change buffer ≡ forwarded.Done touched visited)
+    (buffer : List ℕ) × (touched : ℕ) × (visited : ℕ) × (forward_answer n l change buffer ≡ counted touched visited)
     × ((slice_index (forward_buffer n l change buffer) output == 0) ≡ called)
 Calls core n l change output called = clean_by (core_answer n l change output) ≡ some called
 
@@ -83,42 +85,48 @@ Calls core n l change output called = clean_by (core_answer n l change output) �
 -- "the work ends" is no field: the proof of every function includes it, by measures that fall with each turn of a loop and each call of the cycle of
 -- visits; and definitions are total, so that there is an answer for the call to equal.
 
+-- The numbers and places of the operations' own refusals: "Places from 18 up are 0 unless given otherwise." Those of the netlist's and the list's are
+-- beside document 01's words in refusals/specs/Refusal.antt.
+pub record Numbers : Type 0 where
+  pub no_change : (number_of NoChange ≡ 18) × (place_of NoChange ≡ 0)
+  pub no_output : (number_of NoOutput ≡ 19) × (place_of NoOutput ≡ 0)
+  pub buffer_short : (number_of BufferShort ≡ 20) × (place_of BufferShort ≡ 0)
+
 -- Netlists and lists
 pub record Reading (n l : List ℕ) : Type 0 where
   -- "In the order below, the first condition met is the refusal; where none is met there is none."
-  pub netlist_first : checked n ≡ first_met netlist.Refused (conditions n) (accepted n)
-  pub list_first : list_checked n l ≡ first_met list.Refused (list_conditions n l) (list_accepted n l)
+  pub netlist_first : checked n ≡ first_met (conditions n) (accepted n)
+  pub list_first : list_checked n l ≡ first_met (list_conditions n l) (list_accepted n l)
   -- a netlist, and a list, is accepted exactly where it is as document 01 says
   pub netlist_proper : (checked n ≡ accepted n) ↔ Proper n
   pub list_proper : (list_checked n l ≡ list_accepted n l) ↔ ProperList n l
 
 -- A refusal of an operation is the first condition met: "the list's, then change not below T 18", then one condition more.
-pub data FirstMet (n l : List ℕ) (change : ℕ) (last : Type 0) (lastNumber : ℕ) (number place : ℕ) : Type 0 where
-  by_list : list_checked n l ≡ list.Refused number place → FirstMet n l change last lastNumber number place
-  by_change : (on : ListAccepted n l) → on.task.changes ≤ change → number ≡ 18 → place ≡ 0 → FirstMet n l change last lastNumber number place
-  by_last : Accepted n l change → last → number ≡ lastNumber → place ≡ 0 → FirstMet n l change last lastNumber number place
+pub data FirstMet (n l : List ℕ) (change : ℕ) (last : Type 0) (lastly refusal : Refusal) : Type 0 where
+  by_list : list_checked n l ≡ Err refusal → FirstMet n l change last lastly refusal
+  by_change : (on : ListAccepted n l) → on.task.changes ≤ change → refusal ≡ NoChange → FirstMet n l change last lastly refusal
+  by_last : Accepted n l change → last → refusal ≡ lastly → FirstMet n l change last lastly refusal
 
 -- The operations: the verdict exactly where no condition is met, a refusal exactly where it is the first
 pub record Operations (n l : List ℕ) (change output : ℕ) (buffer : List ℕ) : Type 0 where
   -- "Full: the list's, then change not below T 18; buffer under I + G 20."
-  pub full_done : (full_answer n l change buffer ≡ simulated.Done) ↔ (Accepted n l change × (inputs_of n + gates_of n ≤ length buffer))
-  pub full_refused : (number place : ℕ)
-      → (full_answer n l change buffer ≡ simulated.Refused number place) ↔ FirstMet n l change (length buffer < inputs_of n + gates_of n) 20 number place
-  pub full_untouched : (number place : ℕ) → full_answer n l change buffer ≡ simulated.Refused number place → full_buffer n l change buffer ≡ buffer
+  pub full_done : (full_answer n l change buffer ≡ done) ↔ (Accepted n l change × (inputs_of n + gates_of n ≤ length buffer))
+  pub full_refused : (refusal : Refusal)
+      → (full_answer n l change buffer ≡ Err refusal) ↔ FirstMet n l change (length buffer < inputs_of n + gates_of n) BufferShort refusal
+  pub full_untouched : (refusal : Refusal) → full_answer n l change buffer ≡ Err refusal → full_buffer n l change buffer ≡ buffer
   -- "Forward: the list's, 18, buffer under O 20."
-  pub forward_done : (forward_answer n l change buffer ≡ forwarded.Done (touched_in n l change) (visited_in n l change))
+  pub forward_done : (forward_answer n l change buffer ≡ counted (touched_in n l change) (visited_in n l change))
       ↔ (Accepted n l change × (outputs_of n ≤ length buffer))
-  pub forward_refused : (number place : ℕ)
-      → (forward_answer n l change buffer ≡ forwarded.Refused number place) ↔ FirstMet n l change (length buffer < outputs_of n) 20 number place
-  pub forward_untouched : (number place : ℕ) → forward_answer n l change buffer ≡ forwarded.Refused number place → forward_buffer n l change buffer ≡ buffer
+  pub forward_refused : (refusal : Refusal)
+      → (forward_answer n l change buffer ≡ Err refusal) ↔ FirstMet n l change (length buffer < outputs_of n) BufferShort refusal
+  pub forward_untouched : (refusal : Refusal) → forward_answer n l change buffer ≡ Err refusal → forward_buffer n l change buffer ≡ buffer
   -- "CORE: the list's, 18, output not below O 19", and nothing after it since document 02's Job 8: "Orders ending in 21 end one place earlier."
   pub core_done : (core_answer n l change output ≡ answered_with (search_of n l change output)) ↔ (Accepted n l change × (output < outputs_of n))
-  pub core_refused : (number place : ℕ)
-      → (core_answer n l change output ≡ cored.Refused number place) ↔ FirstMet n l change (outputs_of n ≤ output) 19 number place
+  pub core_refused : (refusal : Refusal) → (core_answer n l change output ≡ Err refusal) ↔ FirstMet n l change (outputs_of n ≤ output) NoOutput refusal
 
--- The gate walk: a step gives none, handing back no byte, or a record
+-- The gate walk: a step gives none, or a record
 abbrev pub GivesNone : Walk → Type 0
-GivesNone w = handed w ≡ []
+GivesNone w = handed w ≡ None
 
 abbrev pub GivesRecord : Walk → Type 0
 GivesRecord w = GivesNone w → ⊥
@@ -126,15 +134,15 @@ GivesRecord w = GivesNone w → ⊥
 -- "Walk: the netlist's." A netlist of whatever bytes is lent to a walk.
 pub record Opening (s : Bor (List ℕ)) : Type 0 where
   -- "Opening checks the netlist": accepted, or the first condition met
-  pub checks : (opened s).checked ≡ first_met netlist.Refused (conditions s.now) (accepted s.now)
+  pub checks : opened s ≡ opened_by s (first_met (conditions s.now) (accepted s.now))
   -- "A gate walk carries the lent netlist and the record it has reached, by number and place, with G."
-  pub carries : checked s.now ≡ accepted s.now → (opened s).walk ≡ record { netlist = s; number = 0; place = 11; count = gates_of s.now }
-  -- the walk of a refused netlist has no record
-  pub refused : (number place : ℕ) → checked s.now ≡ netlist.Refused number place → GivesNone (opened s).walk
+  pub carries : checked s.now ≡ accepted s.now → opened s ≡ Ok (record { netlist = s; number = 0; place = 11; count = gates_of s.now })
+  -- a refused netlist has no walk
+  pub refused : (refusal : Refusal) → checked s.now ≡ Err refusal → opened s ≡ Err refusal
   -- "each step hands back the part that is the next record": gate 0's to gate G - 1's, in order, and then none
   pub hands_back : checked s.now ≡ accepted s.now → HandsBack s
   -- turned down: "a walk giving none on its first step though G is not 0"
-  pub first_step : checked s.now ≡ accepted s.now → 0 < gates_of s.now → GivesRecord (opened s).walk
+  pub first_step : checked s.now ≡ accepted s.now → 0 < gates_of s.now → GivesRecord (walk_of s)
 
 -- "A whole record is a kind and a pin count that the netlist's rules permit and that many pins, all inside the netlist."
 pub record WholeRecord (n : List ℕ) (place : ℕ) : Type 0 where
@@ -149,7 +157,7 @@ pub record Step (w : Walk) : Type 0 where
   -- "It gives none exactly when all G records are handed back or no whole record can be read at its place."
   pub gives_none : GivesNone w ↔ ((w.count ≤ w.number) ⊎ (WholeRecord w.netlist.now w.place → ⊥))
   -- "each step hands back the part that is the next record": kind, pin count and pins
-  pub gives_record : GivesRecord w → handed w ≡ part w.netlist.now w.place (past_record w.netlist.now w.place)
+  pub gives_record : GivesRecord w → handed w ≡ Some (part w.netlist.now w.place (past_record w.netlist.now w.place))
   -- "A step that hands back a record moves the number on by one and the place past the record"
   pub moves_on : GivesRecord w
       → stepped w ≡ record { netlist = w.netlist; number = w.number + 1; place = past_record w.netlist.now w.place; count = w.count }
@@ -157,6 +165,7 @@ pub record Step (w : Walk) : Type 0 where
   pub stays : GivesNone w → stepped w ≡ w
 
 pub record Demand1 : Type 0 where
+  pub numbers : Numbers
   pub reading : (n l : List ℕ) → Reading n l
   pub operations : (n l : List ℕ) (change output : ℕ) (buffer : List ℕ) → Operations n l change output buffer
   pub opening : (s : Bor (List ℕ)) → Opening s
@@ -181,7 +190,7 @@ pub record Demand2 (n l : List ℕ) (change : ℕ) : Type 0 where
   pub gate_class_lem : (g : ℕ) → g < gates_of n
       → class_in n l change (inputs_of n + g) ≡ gate_class (gate_kind n g) (map (class_in n l change) (gate_pins n g))
   -- full simulation writes these classes' codes
-  pub full_codes : (buffer : List ℕ) → full_answer n l change buffer ≡ simulated.Done → (s : ℕ) → s < inputs_of n + gates_of n
+  pub full_codes : (buffer : List ℕ) → full_answer n l change buffer ≡ done → (s : ℕ) → s < inputs_of n + gates_of n
       → slice_index (full_buffer n l change buffer) s ≡ code (class_in n l change s)
   -- the wanted set of an output holds the clean classes in version 1; in version 2 it "holds only that class"
   pub wanted_one : version_of l ≡ 1 → (output : ℕ) (k : Class) → has (wanted_in n l change output) k ≡ clean k
@@ -202,12 +211,12 @@ pub record Demand2 (n l : List ℕ) (change : ℕ) : Type 0 where
   pub forward_constant : (output : ℕ) → output < outputs_of n → (k : Class) → constants_in n l change (output_at n output) ≡ some k
       → output_search n l change output ≡ compared n l change output
   -- CORE's class is the signal's, its counts are the search's
-  pub core_clean : (output class gates pins : ℕ) → output < outputs_of n → core_answer n l change output ≡ cored.Clean class gates pins
+  pub core_clean : (output class gates pins : ℕ) → output < outputs_of n → core_answer n l change output ≡ Ok (record { verdict = Clean class; gates = gates; pins = pins })
       → (class ≡ code (class_in n l change (output_at n output))) × (gates ≡ (search_of n l change output).gates) × (pins ≡ (search_of n l change output).pins)
-  pub core_hazardous : (output gates pins : ℕ) → output < outputs_of n → core_answer n l change output ≡ cored.Hazardous gates pins
+  pub core_hazardous : (output gates pins : ℕ) → output < outputs_of n → core_answer n l change output ≡ Ok (record { verdict = Hazardous; gates = gates; pins = pins })
       → (gates ≡ (search_of n l change output).gates) × (pins ≡ (search_of n l change output).pins)
   -- the forward method's counts are those of its definition
-  pub forward_counts : (buffer : List ℕ) (touched visited : ℕ) → forward_answer n l change buffer ≡ forwarded.Done touched visited
+  pub forward_counts : (buffer : List ℕ) (touched visited : ℕ) → forward_answer n l change buffer ≡ counted touched visited
       → (touched ≡ touched_in n l change) × (visited ≡ visited_in n l change)
 
 -- Demand 3: "a single claim about the whole list of events, and not one for each event".
@@ -279,9 +288,8 @@ pub record Demand3 (n l : List ℕ) (change : ℕ) : Type 0 where
 -- Document 02, "Job 8". "CORE never takes more pins than the output's cone has".
 -- the pins of CORE's answer, or none where it is a refusal
 abbrev pub pins_by : Cored → Option ℕ
-pins_by (cored.Clean class gates pins) = some pins
-pins_by (cored.Hazardous gates pins) = some pins
-pins_by (cored.Refused number place) = none
+pins_by (Ok found) = some found.pins
+pins_by (Err refusal) = none
 
 pub record CorePins (n l : List ℕ) (change : ℕ) : Type 0 where
   -- "the cone being the output's own gate and every gate that reaches it through pins"

@@ -1,9 +1,12 @@
 -- Laws of the bytes in which constants are kept. Assumes nothing.
-use Rattle.std.proofs.Common.{◌≡◌, ℕ, ◌+◌, ◌-◌, ◌<◌, ◌≤◌, List, ◌++◌, length, get_or, take, drop, sym, ap, ◌∙◌, arith, length-take-le, get_or-drop, get_or-take, get_or-append-add}
-use lib.ListN.{get_or-append}
+use Rattle.std.proofs.Common.{◌≡◌, ℕ, ◌+◌, ◌<◌, ◌≤◌, List, ◌++◌, length, get_or, take, drop, sym, ap, ◌∙◌, arith, length-take-le, get_or-drop, get_or-take, get_or-append-add, ap₂, take_all, drop_of_length-le, append-nil, drop-drop}
+use mathlib.Core.List.{map}
+use lib.ListN.{length-map, get_or-map, length-drop, get_or-append}
+use lib.Seq.{ext_get_or}
 use Rattle.kung.specs.Tables.{tab}
 use Rattle.kung.proofs.Listed.{get_d_tab, length_tab}
 use Rattle.inputs.specs.Written.{written}
+use Rattle.forward.specs.Known.{known_or8, known_codes}
 
 -- what stands at each place of a buffer that was written from a place on
 module _ (old : List ℕ) (at : ℕ) (f : ℕ → ℕ) (n : ℕ) (room : at ≤ length old) where
@@ -24,9 +27,34 @@ module _ (old : List ℕ) (at : ℕ) (f : ℕ → ℕ) (n : ℕ) (room : at ≤ 
   written_at k h =
       behind k ∙ get_or-append (tab f 0 n) (drop (at + n) old) 0 k (rw length_tab h) ∙ get_d_tab f n k h
 
-  pub written_after : (k : ℕ) → n ≤ k → get_or (written old at f n) (at + k) 0 ≡ get_or old (at + k) 0
-  written_after k h =
-      let d : k ≡ length (tab f 0 n) + (k - n) = omega (arith, length_tab f 0 n) in
-      behind k
-      ∙ ap (λ m. get_or (tab f 0 n ++ drop (at + n) old) m 0) d ∙ get_or-append-add (tab f 0 n) (drop (at + n) old) (k - n) 0
-      ∙ get_or-drop (at + n) old (k - n) 0 ∙ ap (λ m. get_or old m 0) (omega arith)
+-- the gates' bytes marked, in place
+marked_is : (now : List ℕ) (at n : ℕ) → at + n ≤ length now → take at now ++ (map known_or8 (take n (drop at now)) ++ drop (at + n) now) ≡ known_codes now at n
+unfolding known_codes written
+marked_is now at n room = ap (λ m. take at now ++ (m ++ drop (at + n) now)) (ext_get_or 0 part made long each)
+  where
+    part : List ℕ
+    part = map known_or8 (take n (drop at now))
+
+    made : List ℕ
+    made = tab (λ g. known_or8 (get_or now (at + g) 0)) 0 n
+
+    long_part : length part ≡ n
+    long_part = length-map (take n (drop at now)) known_or8 ∙ length-take-le n (drop at now) (omega (arith, length-drop at now))
+
+    long : length part ≡ length made
+    long = long_part ∙ sym (length_tab _ 0 n)
+
+    each : (k : ℕ) → k < length part → get_or part k 0 ≡ get_or made k 0
+    each k h =
+        let l : k < n = rw long_part at h in
+        get_or-map known_or8 (take n (drop at now)) k 0 ∙ ap known_or8 (get_or-take n (drop at now) k 0 l ∙ get_or-drop at now k 0) ∙ sym (get_d_tab _ n k l)
+
+-- when the loop has passed them all
+pub marked_all : (now items : List ℕ) (at n passed : ℕ) → at + n ≤ length now → let lent = take n (drop at now) in
+    items ≡ map known_or8 (take passed lent) ++ drop passed lent → length lent ≤ passed
+    → take at now ++ (items ++ drop n (drop at now)) ≡ known_codes now at n
+marked_all now items at n passed room e last =
+    let lent = take n (drop at now) in
+    let all : items ≡ map known_or8 lent =
+    e ∙ ap₂ (λ xs ys. map known_or8 xs ++ ys) (take_all passed lent last) (drop_of_length-le lent {i = passed} last) ∙ append-nil (map known_or8 lent) in
+    ap₂ (λ m rest. take at now ++ (m ++ rest)) all (drop-drop n at now) ∙ marked_is now at n room

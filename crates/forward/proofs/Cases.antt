@@ -7,9 +7,10 @@ use Rattle.kung.specs.Sets.{set_of, has, meets, image, possible, wanted_for}
 use Rattle.kung.specs.Tables.{tab}
 use Rattle.circuit.specs.Circuit.{sources}
 use Rattle.words.specs.Words.{word_at, long_at, words_at, marked, outside}
-use Rattle.words.specs.Refusal.{refuse}
+use Rattle.refusals.specs.Refusal.{refuse}
 use Rattle.tie.specs.Tie.{tie_from, tie_of}
 use Rattle.records.specs.Records as records
+use Rattle.spares.specs.Spares as spares
 use Rattle.netlist.specs.Netlist as netlist
 use Rattle.changes.specs.Changes.{bit_at, class_at, sources_of}
 use Rattle.changes.specs.Refusals as list
@@ -20,23 +21,21 @@ use Rattle.search.specs.Pins.{sum_below}
 use Rattle.simulate.proofs.Cases.{mux_netlist, mux_list}
 use Rattle.constants.specs.Constants.{all_known, follows, spread, known_sources, touched}
 use Rattle.constants.specs.Change.{touched_in}
-use Rattle.forward.specs.declared.Forwarded.TheVariants.{Done}
-use Rattle.forward.specs.declared.Forwarded.{Forwarded}
-use Rattle.forward.specs.Forward.{output_search, forward_bytes, visited_in, forward_from, forward_answer, forward_buffer}
+use Rattle.forward.specs.Forward.{ForwardAnswer, counted, output_search, forward_bytes, visited_in, forward_from, forward_answer, forward_buffer}
 
 -- the answer, and the buffer of two bytes after it
-called : (netlist list : List ℕ) → Forwarded × List ℕ
+called : (netlist list : List ℕ) → ForwardAnswer × List ℕ
 unfolding forward_answer forward_buffer forward_from touched_in output_search wanted_at forward_bytes visited_in touched all_known follows spread known_sources sum_below tab
     search visit take_pins take_pin driver_of checks same_result only only_of possible_of total put cell_at cell_of search.judged
     of_code set_of has meets image possible wanted_for join join_all rule.and_all rule.or_all rule.each rule.some rule.gate_class rule.kind_of
     sources sources_of class_at bit_at word_at long_at words_at marked outside tie_of tie_from
-    list.list_checked list.against list.after_netlist list.spares_from list.spare_pair list.spare_at list.spare_bits
+    list.list_checked list.against list.after_netlist list.refuse_spare spares.first_spare spares.spare_pair spares.spare_at spares.spare_bits
     netlist.checked netlist.checked_within netlist.body_within netlist.body netlist.accepted netlist.outputs netlist.counts netlist.opening
     netlist.records_from netlist.record_at records.most_pins records.least_pins records.no_kind netlist.words_below
     refuse netlist.pins_below netlist.place_of netlist.card_of
 called n l = (forward_answer n l 0 (7 ∷ 9 ∷ []), forward_buffer n l 0 (7 ∷ 9 ∷ []))
 
-mux_called : called mux_netlist mux_list ≡ (Done 2 4, 1 ∷ 9 ∷ [])
+mux_called : called mux_netlist mux_list ≡ (counted 2 4, 1 ∷ 9 ∷ [])
 unfolding called netlist.shape_of
 mux_called = refl
 
@@ -50,6 +49,6 @@ mended_netlist =
 abbrev mended_list : List ℕ
 mended_list = 0x4C ∷ 0x43 ∷ 0x54 ∷ 0x01 ∷ 0x00 ∷ 0x9C ∷ 0x28 ∷ 0x00 ∷ 0x00 ∷ 0x01 ∷ 0x00 ∷ 0x07 ∷ 0x03 ∷ []
 
-mended_called : called mended_netlist mended_list ≡ (Done 4 0, 0 ∷ 9 ∷ [])
+mended_called : called mended_netlist mended_list ≡ (counted 4 0, 0 ∷ 9 ∷ [])
 unfolding called netlist.shape_of
 mended_called = refl

@@ -7,7 +7,6 @@ use lib.ListN.{get_or-append, get_or-eq_default}
 use Rattle.kung.specs.Class.{Class, c0, code, of_code}
 use Rattle.kung.specs.Rule.{gate_class}
 use Rattle.kung.specs.Tables.{tab}
-use Rattle.kung.specs.Lookup.{search_table}
 use Rattle.kung.proofs.Finite.{of_code_code}
 use Rattle.kung.proofs.SetLaws.{code_lt}
 use Rattle.circuit.specs.Circuit.{Source, given, gate, out_of, value}
@@ -210,9 +209,8 @@ module _ (n l rows : List ℕ) (task : Task) (a : Accepts true n l rows task) (t
       go (no above) (no beyond) = omega (arith, known_above s (omega arith))
 
   -- the outputs can be searched
-  pub searchable : {table : List ℕ} → table ≡ search_table → (k : List ℕ) → k ≡ known → (room : ℕ) → o ≤ room
-      → OutputsReady table rows k task.shape room
-  searchable table_is k e room enough = rw e (outputs_ready n l rows task a table_is known known_length known_afresh known_below room enough)
+  pub searchable : (k : List ℕ) → k ≡ known → (room : ℕ) → o ≤ room → OutputsReady rows k task.shape room
+  searchable k e room enough = rw e (outputs_ready n l rows task a known known_length known_afresh known_below room enough)
 
   -- the same, of what the calls hand back
   module _ (now : List ℕ) (e : now ≡ filled) where

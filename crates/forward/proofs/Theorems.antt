@@ -1,5 +1,5 @@
 -- What the forward method says of an accepted change: it calls an output clean exactly where its class is in the wanted set. Assumes nothing.
-use Rattle.std.proofs.Common.{◌≡◌, ℕ, ◌+◌, ◌<◌, Bool, true, false, cond, ◌↔◌, List, get_or, sym, refl, ap, ◌∙◌, arith}
+use Rattle.std.proofs.Common.{◌≡◌, ℕ, ◌+◌, ◌<◌, Bool, true, false, cond, ◌↔◌, List, get_or, Ok, sym, refl, ap, ◌∙◌, arith}
 use mathlib.Core.Option.{some}
 use Rattle.kung.specs.Class.{Class, c0, clean}
 use Rattle.kung.specs.Sets.{has}
@@ -8,7 +8,6 @@ use Rattle.kung.proofs.Listed.{get_d_tab}
 use Rattle.circuit.proofs.Laws.{sources_above}
 use Rattle.netlist.specs.Netlist.{inputs_of, gates_of, outputs_of, output_at, card_of}
 use Rattle.changes.specs.declared.Task.{Task}
-use Rattle.changes.specs.declared.Listed.TheVariants.{Accepted}
 use Rattle.changes.specs.Changes.{version_of, layout_in, sources_of}
 use Rattle.changes.specs.Refusals.{list_checked}
 use Rattle.wanted.specs.Wanted.{wanted_in}
@@ -38,7 +37,7 @@ constant_is_clean : (k : Class) → is_constant k ≡ true → clean k ≡ true
 unfolding every_class
 constant_is_clean k h = T→≡ _ (implied (is_constant k) (clean k) (class_at_lem (λ k. implies (is_constant k) (clean k)) tt k) (≡→T _ h))
 
-module _ {task : Task} (n l : List ℕ) (accepted : list_checked n l ≡ Accepted task) (t : ℕ) where
+module _ {task : Task} (n l : List ℕ) (accepted : list_checked n l ≡ Ok task) (t : ℕ) where
   pub output_verdict : (out : ℕ) → (output_search n l t out).verdict ≡ search.judged (wanted_in n l t out) (class_in n l t (output_at n out))
   unfolding output_search sources_of card_of
   output_verdict out =

@@ -5,7 +5,9 @@ use native.Mathlib.Nat.{zero-add, add-zero}
 use mathlib.Core.Path.{◌≡◌, refl, sym, ◌∙◌, ap, ap₂}
 use mathlib.Core.List.{List, [], ◌∷◌, ◌++◌, append_assoc}
 use lib.ListN.{length, take, drop, set, replicate, length-append, take-append-drop, length-drop}
-use lib.Seq.{take_at, drop_at, drop-cons, drop-drop, set_at, length-take-le}
+use borrow.Rule.Slice.PartMut.{put_mid}
+use Rattle.std.proofs.lemmas.List.{append-nil}
+use lib.Seq.{drop-length, take_at, drop_at, drop-cons, drop-drop, set_at, length-take-le}
 use lib.Bits.{bit_xor}
 use lib.Dec.{eqb}
 use Rattle.kung.specs.Class.{code, input_class}
@@ -81,6 +83,17 @@ written_next old f n h now e value v = ap₂ (λ now value. set now n value) e v
 pub written_all : (old : List ℕ) (f : ℕ → ℕ) (n : ℕ) → written old 0 f n ≡ tab f 0 n ++ drop n old
 unfolding written
 written_all old f n = rw zero-add
+
+pub written_whole : (old : List ℕ) (f : ℕ → ℕ) (n : ℕ) → n ≡ length old → written old 0 f n ≡ tab f 0 (length old)
+written_whole old f n e = rw (e, written_all old f (length old), drop-length old) (append-nil (tab f 0 (length old)))
+
+-- into a part of a list
+pub part_written : (now part : List ℕ) (at k n : ℕ) (f : ℕ → ℕ) → part ≡ tab f 0 (length (take k (drop at now))) → k ≡ n → at + n ≤ length now
+    → put_mid at k now part ≡ written now at f n
+unfolding written
+part_written now part at k n f e d room =
+    let size : length (take k (drop at now)) ≡ n = length-take-le k (drop at now) (omega (arith, length-drop at now)) ∙ d in
+    rw (e, size, d, drop-drop n at now)
 
 -- what is written behind the first n numbers is written with them
 behind : (old : List ℕ) (f g : ℕ → ℕ) (n m : ℕ) → ((k : ℕ) → k < m → f (n + k) ≡ g k)

@@ -2,6 +2,7 @@
 #![tactic(auto)]
 
 ghost use Rattle.std.specs.Prelude.{◌≡◌, ◌++◌, ◌+◌, ◌≤◌, ◌<◌, length, drop};
+ghost use Rattle.kung.specs.Tables.{tab};
 ghost use Rattle.inputs.specs.Written.{input_codes, code_in, written};
 
 use changes::Task;
@@ -17,13 +18,13 @@ pub fn class_of_bits(first: u8, second: u8, k: usize) -> u8
     start + 2 * (start ^ end)
 }
 
-// Writes the classes of the first `count` inputs of two bytes from a place on.
-fn fill_byte(first: u8, second: u8, count: usize, at: usize, buffer: &mut [u8])
-    requires { (count ≤ 8) × (at + count ≤ length buffer.old) }
-    ensures { buffer.new ≡ written buffer.old at (code_in first second) count }
+// Writes the classes of the inputs of two bytes, as many as there is room for.
+fn fill_byte(first: u8, second: u8, classes: &mut [u8])
+    requires { length classes.old ≤ 8 }
+    ensures { classes.new ≡ tab (code_in first second) 0 (length classes.old) }
 {
-    for k in 0..count {
-        buffer[at + k] = class_of_bits(first, second, k);
+    for (k, class) in classes.iter_mut().enumerate() {
+        *class = class_of_bits(first, second, k);
     }
 }
 
@@ -32,27 +33,21 @@ pub fn fill_inputs(list: &[u8], task: Task, t: usize, buffer: &mut [u8])
     requires { (task.layout.width ≤ 32) × (task.layout.row ≤ 8) × (t ≤ 1000) × (task.shape.inputs ≤ length buffer.old) }
     ensures { buffer.new ≡ input_codes list.now task.layout t task.shape.inputs ++ drop task.shape.inputs buffer.old }
 {
-    let shape = task.shape;
-    let inputs = shape.inputs;
-    let layout = task.layout;
-    let width = layout.width;
-    let first = 11 + t * (2 * width + 2 * layout.row);
-    let second = first + width;
+    let inputs = task.shape.inputs;
+    let first = task.layout.change_at(t);
+    let second = first + task.layout.width;
     let whole = inputs / 8;
+    // not by `chunks_mut`: std does not say what the buffer holds after it
     for j in 0..whole {
         fill_byte(
             byte_at(list, first + j),
             byte_at(list, second + j),
-            8,
-            8 * j,
-            buffer,
+            &mut buffer[8 * j..8 * j + 8],
         );
     }
     fill_byte(
         byte_at(list, first + whole),
         byte_at(list, second + whole),
-        inputs % 8,
-        8 * whole,
-        buffer,
+        &mut buffer[8 * whole..inputs],
     );
 }

@@ -1,6 +1,6 @@
 -- Laws of gates by the set of their pins' classes. Assumes nothing.
 use mathlib.Core.Path.{◌≡◌, refl, ◌∙◌, ap}
-use mathlib.Core.Bool.{Bool, true, false, ◌||◌}
+use mathlib.Core.Bool.{◌||◌, or_comm}
 use mathlib.Core.List.{List, [], ◌∷◌}
 use Prim.Native.Nat.{ℕ, ◌/◌, ◌%◌}
 use lib.Dec.{eqb}
@@ -24,10 +24,4 @@ collect_is [] = refl
 collect_is (k ∷ ps) =
     set_of_ext _ _
     (λ c. ap (λ m. has m c || same k c) (collect_is ps) ∙ ap (λ b. b || same k c) (has_set_of (λ c. some (λ k. same k c) ps) c)
-    ∙ swap (some (λ k. same k c) ps) (same k c))
-  where
-    swap : (a b : Bool) → (a || b) ≡ (b || a)
-    swap true true = refl
-    swap true false = refl
-    swap false true = refl
-    swap false false = refl
+    ∙ or_comm (some (λ k. same k c) ps) (same k c))

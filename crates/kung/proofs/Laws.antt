@@ -12,6 +12,10 @@ pub invert_invert : (k : Class) → invert (invert k) ≡ k
 unfolding every_class
 invert_invert k = same→≡ _ _ (class_at_lem (λ k. same (invert (invert k)) k) tt k)
 
+pub invert_if_twice : (b : Bool) (k : Class) → invert_if b (invert_if b k) ≡ k
+invert_if_twice true k = invert_invert k
+invert_if_twice false k = refl
+
 -- AND reads six flags off its pins: some pin `0`; each starts at 1; each ends at 1; each is `1`; `1` or `R`; `1` or `F`
 record Flags : Type 0 where
   zero : Bool

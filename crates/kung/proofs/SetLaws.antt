@@ -7,6 +7,7 @@ use native.Mathlib.Omega.{arith}
 use lib.Count.{count_trailing_zeros}
 use lib.Dec.{eqb, eqb→eq, eqb_refl, ltb, ltb→lt}
 use lib.ListN.{length, get_or}
+use Rattle.std.proofs.lemmas.Bool.{and_parts, or_right}
 use Rattle.kung.specs.Class.{Class, c0, code, classes, same}
 use Rattle.kung.specs.Rule.{some, invert}
 use Rattle.kung.specs.Operation.{Op, join, join_all, invert_if}
@@ -32,14 +33,6 @@ has_set_of f k =
     ap (λ (m : ℕ). eqb (m / 2 ^ code k % 2) 1) (nested f) ∙ ap (λ (x : ℕ). eqb x 1) (digit f classes (code k) (code_lt k))
     ∙ eqb_bit (f (get_or classes (code k) c0)) ∙ ap f (class_of k)
 
-and_left : (a b : Bool) → (a && b) ≡ true → a ≡ true
-and_left true b e = refl
-and_left false b e = e
-
-and_right : (a b : Bool) → (a && b) ≡ true → b ≡ true
-and_right true b e = e
-and_right false b e = absurd (false≢true e)
-
 pub same_refl : (k : Class) → same k k ≡ true
 same_refl k = T→≡ _ (eqb_refl (code k))
 
@@ -48,11 +41,7 @@ some_at : {A : Type 0} (f : A → Bool) (d : A) (xs : List A) (n : ℕ) → n < 
 unfolding some
 some_at f d [] n h e = absurd (omega arith)
 some_at f d (x ∷ xs) zero h e = rw e
-some_at f d (x ∷ xs) (suc n) h e = either (f x) (some_at f d xs n (omega arith) e)
-  where
-    either : (b : Bool) {c : Bool} → c ≡ true → (b || c) ≡ true
-    either true p = refl
-    either false p = p
+some_at f d (x ∷ xs) (suc n) h e = or_right (f x) (some f xs) (some_at f d xs n (omega arith) e)
 
 pub some_intro : (f : Class → Bool) (k : Class) → f k ≡ true → some f classes ≡ true
 some_intro f k e = some_at f c0 classes (code k) (code_lt k) (ap f (class_of k) ∙ e)
@@ -98,7 +87,7 @@ meets_intro m n k p q = some_intro (λ x. has m x && has n x) k (rw (p, q))
 
 pub meets_elim : (m n : ℕ) → meets m n ≡ true → (k : Class) × (has m k ≡ true) × (has n k ≡ true)
 unfolding meets
-meets_elim m n e = let w = some_elim (λ x. has m x && has n x) classes e in (w.0, and_left (has m w.0) _ w.1, and_right (has m w.0) _ w.1)
+meets_elim m n e = let w = some_elim (λ x. has m x && has n x) classes e in let both = and_parts (has m w.0) (has n w.0) w.1 in (w.0, both.0, both.1)
 
 pub same_elim : (a b : Class) → same a b ≡ true → a ≡ b
 same_elim a b e = same→≡ a b (≡→T (same a b) e)
@@ -172,8 +161,8 @@ image_one o p k = set_of_ext _ _ (λ c. iff→≡ _ _ (there c) (back c))
     there : (c : Class) → some (λ x. has (insert 0 k) x && same (join o p x) c) classes ≡ true → same (join o p k) c ≡ true
     there c e =
         let w = some_elim (λ x. has (insert 0 k) x && same (join o p x) c) classes e in
-        ap (λ x. same (join o p x) c) (same_elim k w.0 (sym (has_one k w.0) ∙ and_left (has (insert 0 k) w.0) _ w.1))
-        ∙ and_right (has (insert 0 k) w.0) _ w.1
+        let both = and_parts (has (insert 0 k) w.0) (same (join o p w.0) c) w.1 in
+        ap (λ x. same (join o p x) c) (same_elim k w.0 (sym (has_one k w.0) ∙ both.0)) ∙ both.1
 
     back : (c : Class) → same (join o p k) c ≡ true → some (λ x. has (insert 0 k) x && same (join o p x) c) classes ≡ true
     back c e = some_intro (λ x. has (insert 0 k) x && same (join o p x) c) k (rw (has_one k k ∙ same_refl k) e)

@@ -1,6 +1,6 @@
 -- Sets by unions: what is true of a class here or there is true of it in the union. Assumes nothing.
 use mathlib.Core.Path.{◌≡◌, refl, sym, ◌∙◌, ap, ap₂}
-use mathlib.Core.Bool.{Bool, true, false, cond, ◌&&◌, ◌||◌}
+use mathlib.Core.Bool.{Bool, true, false, cond, ◌&&◌, ◌||◌, and-or_distrib_right}
 use mathlib.Core.List.{List, [], ◌∷◌}
 use Prim.Native.Nat.{ℕ, zero, suc, ◌+◌, ◌*◌, ◌/◌, ◌%◌, ◌^◌, ◌<◌}
 use native.Mathlib.Omega.{arith}
@@ -87,13 +87,6 @@ some_or f g (k ∷ ks) = ap (λ b. (f k || g k) || b) (some_or f g ks) ∙ excha
     exchange false true false d = refl
     exchange false false c d = refl
 
-and_or : (a b c : Bool) → ((a || b) && c) ≡ ((a && c) || (b && c))
-and_or true true true = refl
-and_or true true false = refl
-and_or true false true = refl
-and_or true false false = refl
-and_or false b c = refl
-
 -- a rule that takes unions to unions
 abbrev pub Additive : (ℕ → ℕ) → Type 0
 Additive f = (m n : ℕ) → f (bit_or m n) ≡ bit_or (f m) (f n)
@@ -104,7 +97,7 @@ module _ (o : Op) where
   unfolding image
   image_or p m n =
       (λ i. set_of (λ c. some (λ k. has_or m n k i && same (join o p k) c) classes))
-      ∙ (λ i. set_of (λ c. some (λ k. and_or (has m k) (has n k) (same (join o p k) c) i) classes))
+      ∙ (λ i. set_of (λ c. some (λ k. and-or_distrib_right (has m k) (has n k) (same (join o p k) c) i) classes))
       ∙ (λ i. set_of (λ c. some_or (λ k. has m k && same (join o p k) c) (λ k. has n k && same (join o p k) c) classes i))
       ∙ set_of_or (λ c. some (λ k. has m k && same (join o p k) c) classes) (λ c. some (λ k. has n k && same (join o p k) c) classes)
 

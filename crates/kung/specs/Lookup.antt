@@ -27,7 +27,7 @@ unfoldable pub stop_set : (waiter gate reach : ℕ) → ℕ
 stop_set w g reach = set_of (λ p. not (has reach p) || ends_with w g p)
 
 -- 136 joins (17 waiting gates, eight classes), 80 stop bytes (20 waiting gates, of which those above 16 are never asked for, four gates), 576 wanted
--- sets: 4,888 entries with the images, of which most then lie in a call's frame where they are made by aligned stores.
+-- sets: 4,888 entries with the images.
 unfoldable pub lookup_rule : ℕ → ℕ
 lookup_rule i =
     cond (ltb i 136) (code (joined_by (i / 8) (of_code i)))
@@ -36,6 +36,6 @@ lookup_rule i =
 unfoldable pub lookup_table : List ℕ
 lookup_table = tab lookup_rule 0 792
 
--- The search reads images and these others in one table, since lending two costs it time.
+-- The search reads images and these others in one table.
 unfoldable pub search_table : List ℕ
 search_table = image_table ++ lookup_table

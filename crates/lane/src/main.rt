@@ -28,6 +28,7 @@ fn read_start(rt: &HostRuntime, path: &str, buffer: &mut [u8]) -> usize
         return 0;
     };
     let mut done = 0;
+    // a `while`: each turn adds as many bytes as came, which no `for` or iterator counts
     while done < buffer.len() {
         let n = read_some(&mut file, &mut buffer[done..]);
         if n == 0 {
@@ -40,6 +41,7 @@ fn read_start(rt: &HostRuntime, path: &str, buffer: &mut [u8]) -> usize
 
 // A write that fails ends the program with a line on standard error, where it writes nothing else.
 fn main(rt: HostRuntime) -> io::Result<()> {
+    // fixed buffers: of a file longer than this the rest is not read
     let mut netlist = [0u8; 65536];
     let n = read_start(&rt, "lane.lcn", &mut netlist);
     let mut list = [0u8; 65536];

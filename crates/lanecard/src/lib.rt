@@ -10,16 +10,16 @@ ghost use Rattle.changes.specs.Refusals.{list_checked};
 ghost use Rattle.core_search.specs.Core.{core_answer};
 ghost use Rattle.lists.specs.Methods.{full_of, forward_of, core_of};
 ghost use Rattle.walk.specs.Walk.{opened, start_of, walk_at, step_of};
-ghost use Rattle.replies.specs.Replies.{netlist_answer, list_answer, start_answer, step_answer};
-ghost use Rattle.answers.specs.Answers.{cored_answer};
+ghost use Rattle.replies.specs.Replies.{Answered, netlist_answer, list_answer, start_answer, step_answer, cored_answer};
 ghost use Rattle.lanecard.specs.Buffers.{Fulled, ForwardedOf, AllJudged};
+
+use replies::reply;
 
 #[unsafe(no_mangle)]
 pub extern "C" fn lane_join(operation: u8, a: u8, b: u8) -> u8
     ensures { result ≡ code (join (op_at operation) (of_code a) (of_code b)) }
 {
-    let table = tables::search();
-    lookup::joined(&table, operation, a, b)
+    lookup::joined(operation, a, b)
 }
 
 #[unsafe(no_mangle)]
@@ -31,18 +31,16 @@ pub extern "C" fn lane_invert(a: u8) -> u8
 
 #[unsafe(no_mangle)]
 pub extern "C" fn lane_netlist(netlist: &[u8], answer: &mut [u64; 5]) -> u32
-    ensures { (result ≡ (netlist_answer (checked netlist.now)).number) × (answer.new ≡ (netlist_answer (checked netlist.now)).words) }
+    ensures { Answered (netlist_answer (checked netlist.now)) result answer.new }
 {
-    let checked = netlist::check(netlist);
-    replies::put_checked(answer, checked)
+    reply(answer, netlist::check(netlist))
 }
 
 #[unsafe(no_mangle)]
 pub extern "C" fn lane_list(netlist: &[u8], list: &[u8], answer: &mut [u64; 5]) -> u32
-    ensures { (result ≡ (list_answer (list_checked netlist.now list.now)).number) × (answer.new ≡ (list_answer (list_checked netlist.now list.now)).words) }
+    ensures { Answered (list_answer (list_checked netlist.now list.now)) result answer.new }
 {
-    let listed = changes::check(netlist, list);
-    replies::put_listed(answer, listed)
+    reply(answer, changes::check(netlist, list))
 }
 
 #[unsafe(no_mangle)]
@@ -55,8 +53,7 @@ pub extern "C" fn lane_full(
 ) -> u32
     ensures { Fulled netlist.now list.now change buffer.old buffer.new result answer.new }
 {
-    let simulated = simulate::full(netlist, list, change, buffer);
-    answers::put_simulated(answer, simulated)
+    reply(answer, simulate::full(netlist, list, change, buffer))
 }
 
 #[unsafe(no_mangle)]
@@ -67,10 +64,9 @@ pub extern "C" fn lane_core(
     output: usize,
     answer: &mut [u64; 5],
 ) -> u32
-    ensures { (result ≡ (cored_answer (core_answer netlist.now list.now change output)).number) × (answer.new ≡ (cored_answer (core_answer netlist.now list.now change output)).words) }
+    ensures { Answered (cored_answer (core_answer netlist.now list.now change output)) result answer.new }
 {
-    let cored = core_search::core(netlist, list, change, output);
-    answers::put_cored(answer, cored)
+    reply(answer, core_search::core(netlist, list, change, output))
 }
 
 #[unsafe(no_mangle)]
@@ -83,8 +79,7 @@ pub extern "C" fn lane_forward(
 ) -> u32
     ensures { ForwardedOf netlist.now list.now change buffer.old buffer.new result answer.new }
 {
-    let forwarded = forward::forward(netlist, list, change, buffer);
-    answers::put_forwarded(answer, forwarded)
+    reply(answer, forward::forward(netlist, list, change, buffer))
 }
 
 #[unsafe(no_mangle)]
@@ -96,8 +91,7 @@ pub extern "C" fn lane_full_all(
 ) -> u32
     ensures { AllJudged (full_of netlist.now list.now) netlist.now list.now buffer.old buffer.new result answer.new }
 {
-    let judged = batch::full(netlist, list, buffer);
-    answers::put_judged(answer, judged)
+    reply(answer, batch::full(netlist, list, buffer))
 }
 
 #[unsafe(no_mangle)]
@@ -109,8 +103,7 @@ pub extern "C" fn lane_forward_all(
 ) -> u32
     ensures { AllJudged (forward_of netlist.now list.now) netlist.now list.now buffer.old buffer.new result answer.new }
 {
-    let judged = batch::forward(netlist, list, buffer);
-    answers::put_judged(answer, judged)
+    reply(answer, batch::forward(netlist, list, buffer))
 }
 
 #[unsafe(no_mangle)]
@@ -122,16 +115,14 @@ pub extern "C" fn lane_core_all(
 ) -> u32
     ensures { AllJudged (core_of netlist.now list.now) netlist.now list.now buffer.old buffer.new result answer.new }
 {
-    let judged = batch::core(netlist, list, buffer);
-    answers::put_judged(answer, judged)
+    reply(answer, batch::core(netlist, list, buffer))
 }
 
 #[unsafe(no_mangle)]
 pub extern "C" fn lane_walk(netlist: &[u8], answer: &mut [u64; 5]) -> u32
-    ensures { (result ≡ (start_answer (start_of (opened netlist.entry))).number) × (answer.new ≡ (start_answer (start_of (opened netlist.entry))).words) }
+    ensures { Answered (start_answer (start_of (opened netlist.entry))) result answer.new }
 {
-    let start = walk::open_at(netlist);
-    replies::put_start(answer, start)
+    reply(answer, walk::open_at(netlist))
 }
 
 #[unsafe(no_mangle)]
@@ -142,8 +133,7 @@ pub extern "C" fn lane_step(
     count: usize,
     answer: &mut [u64; 5],
 ) -> u32
-    ensures { (result ≡ (step_answer (step_of (walk_at netlist.entry number place count))).number) × (answer.new ≡ (step_answer (step_of (walk_at netlist.entry number place count))).words) }
+    ensures { Answered (step_answer (step_of (walk_at netlist.entry number place count))) result answer.new }
 {
-    let stepped = walk::step_at(netlist, number, place, count);
-    replies::put_stepped(answer, stepped)
+    reply(answer, Ok(walk::step_at(netlist, number, place, count)))
 }

@@ -1,35 +1,32 @@
--- What only the code and its proofs need: what the functions behind the lines are lent and hand on.
-use Rattle.std.specs.Prelude.{ℕ, ◌+◌, ◌*◌, ◌%◌, List, ◌++◌, drop, ◌==◌, slice_index, slice_set}
-use Rattle.changes.specs.declared.Task.{Task}
+-- What only the code and its proofs need: what the functions behind the lines are lent and write.
+use Rattle.std.specs.Prelude.{ℕ, List, ◌++◌, drop, ◌==◌, slice_index}
+use Rattle.rows.specs.Rows.{output_in}
+use Rattle.jobs.specs.declared.Job.{Job}
 use Rattle.changes.specs.Lent.{signals_of}
 use Rattle.inputs.specs.Written.{input_codes}
 use Rattle.sweep.specs.Sweep.{codes_of}
-use Rattle.visit.specs.declared.Found.{Found}
-use Rattle.outputs.specs.Codes.{found_byte}
+use Rattle.outputs.specs.Outputs.{search_from, byte_from}
 use Rattle.report.specs.declared.Line.{Line}
 use Rattle.report.specs.Lines.{text_of}
 
--- what is found of an output, in four numbers from a place on
-abbrev pub kept_at : List ℕ → (at class : ℕ) → Found → List ℕ
-kept_at lines at class found = slice_set (slice_set (slice_set (slice_set lines at class) (at + 1) (found_byte found.verdict)) (at + 2) found.gates) (at + 3) found.pins
-
--- the line of an output, from its four numbers
-abbrev pub line_in : (lines : List ℕ) → (change output : ℕ) → Line
-line_in lines change o =
+-- the line of output o of a card of n signals: its class, and what its search finds
+abbrev pub line_from : (rows known wanted classes : List ℕ) → (n change o : ℕ) → Line
+line_from rows known wanted classes n change o =
     record {
       change = change;
       output = o;
-      class = slice_index lines (4 * o) % 256;
-      clean = (slice_index lines (4 * o + 1) == 0);
-      gates = slice_index lines (4 * o + 2);
-      pins = slice_index lines (4 * o + 3);
+      class = slice_index classes (output_in rows n o);
+      clean = (byte_from rows known wanted n o == 0);
+      gates = (search_from rows known wanted n o).gates;
+      pins = (search_from rows known wanted n o).pins;
     }
 
-unfoldable pub text_in : (lines : List ℕ) → (change output : ℕ) → List ℕ
-text_in lines change o = text_of (line_in lines change o)
+unfoldable pub text_from : (rows known wanted classes : List ℕ) → (n change o : ℕ) → List ℕ
+text_from rows known wanted classes n change o = text_of (line_from rows known wanted classes n change o)
 
 -- the classes of a change at the start of a buffer
-abbrev pub classes_from : (list : List ℕ) → Task → (rows : List ℕ) → (change : ℕ) → (buffer : List ℕ) → List ℕ
-classes_from l task rows change buffer =
-    let filled = input_codes l task.layout change task.shape.inputs ++ drop task.shape.inputs buffer in
-    codes_of rows filled task.shape.inputs task.shape.gates (signals_of task.shape) ++ drop (signals_of task.shape) filled
+abbrev pub classes_from : Job → (change : ℕ) → (buffer : List ℕ) → List ℕ
+classes_from job change buffer =
+    let task = job.task in
+    let filled = input_codes job.list.now task.layout change task.shape.inputs ++ drop task.shape.inputs buffer in
+    codes_of job.rows.now filled task.shape.inputs task.shape.gates (signals_of task.shape) ++ drop (signals_of task.shape) filled

@@ -1,7 +1,7 @@
 -- Document 01, "Gate walk and program": the first line that the program prints, and texts in a row.
-use Rattle.std.specs.Prelude.{ℕ, zero, suc, ◌+◌, List, [], ◌++◌}
-use Rattle.changes.specs.declared.Listed.{Listed}
-use Rattle.changes.specs.declared.Listed.TheVariants.{Accepted, Refused}
+use Rattle.std.specs.Prelude.{ℕ, zero, suc, ◌+◌, List, [], ◌++◌, Ok, Err}
+use Rattle.refusals.specs.Refusal.{number_of, place_of}
+use Rattle.changes.specs.Refusals.{Listed}
 use Rattle.report.specs.Text.{counts_line, refusal_line}
 
 -- the texts f i, f (i + 1), .., n of them, one after the other
@@ -11,5 +11,5 @@ texts f i (suc n) = texts f i n ++ f (i + n)
 
 -- "prints a line with the counts I, G, O, T"; "On a refusal it prints only the line `refused N at P`, N the number and P the place."
 unfoldable pub first_line : Listed → List ℕ
-first_line (Refused number place) = refusal_line number place
-first_line (Accepted task) = counts_line task.shape.inputs task.shape.gates task.shape.outputs task.changes
+first_line (Err refusal) = refusal_line (number_of refusal) (place_of refusal)
+first_line (Ok task) = counts_line task.shape.inputs task.shape.gates task.shape.outputs task.changes

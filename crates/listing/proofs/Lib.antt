@@ -1,4 +1,3 @@
 mod Pages
-mod Lines
 mod Prepared
 pub mod Theorems

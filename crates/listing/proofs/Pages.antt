@@ -2,6 +2,7 @@
 use Rattle.std.proofs.Common.{◌≡◌, ℕ, zero, suc, ◌+◌, ◌-◌, ◌<◌, ◌≤◌, Bool, true, false, ltb, List, [], ◌++◌, length, refl, ap, ◌∙◌, append_assoc, append-nil, add-zero, zero-add, add-one, arith, ltb-false, ltb-true, le-ltb, lt-ltb}
 use native.Mathlib.Nat.{sub-zero}
 use Rattle.changes.specs.Refusals.{list_checked}
+use Rattle.report.specs.declared.Text.{Text}
 use Rattle.report.specs.Appended.{Appended}
 use Rattle.report.proofs.Appending.{nothing, ◌then◌}
 use Rattle.lines.specs.Texts.{texts, first_line}
@@ -11,25 +12,36 @@ use Rattle.listing.specs.declared.Progress.TheVariants.{Start, Change}
 use Rattle.text.specs.Listing.{change_lines, printed_changes}
 use Rattle.listing.specs.Pieces.{empty, ◌before◌, page, piece_of, Written}
 
--- what is appended at the buffer's start is a piece
-written : {entry exit text : List ℕ} {r : ℕ} (next : Progress) → Appended entry exit 0 r text
+-- A buffer that was lent to a text: what it held, and what it and the text hold at the end
+pub record Lent (entry exit : List ℕ) (length : ℕ) (a b : Text) : Type 0 where
+  pub starts : a.bytes.now ≡ entry
+  pub none : a.written ≡ 0
+  pub ends : exit ≡ b.bytes.now
+  pub all : length ≡ b.written
+
+-- what is appended to its empty text is a piece
+written : {entry exit text : List ℕ} {r : ℕ} {a b : Text} (next : Progress) → Lent entry exit r a b → Appended a b text
     → Written (record { text = text; next = next }) entry exit (record { length = r; next = next })
-written {entry} {exit} {text} next p = record { length_is = p.after ∙ zero-add (length text); next_is = refl; bytes = rw zero-add at p.bytes }
+written {text = text} next l p = record {
+  length_is = l.all ∙ p.written ∙ rw l.none (zero-add (length text));
+  next_is = refl;
+  bytes = l.ends ∙ rw (l.none, l.starts, zero-add) at p.bytes;
+}
 
 -- no text in any buffer
 written_empty : (entry : List ℕ) (p : Progress) → Written (empty p) entry entry (record { length = 0; next = p })
-written_empty entry p = written p (nothing entry 0 (omega arith))
+written_empty entry p = record { length_is = refl; next_is = refl; bytes = refl }
 
 -- the first line, as the check of the list answers
-module _ (n l entry : List ℕ) where
-  pub first_short : length entry < 64 → Written (piece_of n l (length entry) Start) entry entry (record { length = 0; next = Start })
+module _ (n l : List ℕ) where
+  pub first_short : (entry : List ℕ) → length entry < 64 → Written (piece_of n l (length entry) Start) entry entry (record { length = 0; next = Start })
   unfolding piece_of
-  first_short h = rw (lt-ltb (length entry) 64 h) (written_empty entry Start)
+  first_short entry h = rw (lt-ltb (length entry) 64 h) (written_empty entry Start)
 
-  pub first_written : {exit : List ℕ} {r : ℕ} → 64 ≤ length entry → Appended entry exit 0 r (first_line (list_checked n l))
+  pub first_written : {entry exit : List ℕ} {r : ℕ} {a b : Text} → 64 ≤ length entry → Lent entry exit r a b → Appended a b (first_line (list_checked n l))
       → Written (piece_of n l (length entry) Start) entry exit (record { length = r; next = Change 0 })
   unfolding piece_of
-  first_written h p = rw (le-ltb (length entry) 64 h) (written (Change 0) p)
+  first_written {entry} h lent p = rw (le-ltb (length entry) 64 h) (written (Change 0) lent p)
 
 module _ (f : ℕ → List ℕ) (left t room : ℕ) where
   pub page_full : room < 3072 → page f left t room ≡ empty (Change t)
@@ -75,24 +87,24 @@ reached f (suc left) t room = go (ltb room 3072) refl (reached f left (suc t) (r
           next_is = rw one (r.next_is ∙ ap Change (omega arith));
         }
 
--- A page that has grown up to change t: its text is in the buffer up to `at`, and what is left of it begins with change t.
-pub record Grown (n l entry exit : List ℕ) (from t at : ℕ) : Type 0 where
+-- A page that has grown up to change t: what is left of it begins with change t.
+pub record Grown (n l : List ℕ) (a b : Text) (from t : ℕ) : Type 0 where
   pub text : List ℕ
-  pub there : Appended entry exit 0 at text
-  pub rest : piece_of n l (length entry) (Change from)
-      ≡ text before page (change_lines n l) (printed_changes (list_checked n l) - t) t (length entry - at)
+  pub there : Appended a b text
+  pub rest : piece_of n l (length a.bytes.now) (Change from)
+      ≡ text before page (change_lines n l) (printed_changes (list_checked n l) - t) t (length a.bytes.now - b.written)
 
 module _ (n l : List ℕ) where
-  pub grown_none : (entry : List ℕ) (from : ℕ) → Grown n l entry entry from from 0
+  pub grown_none : (a : Text) (from : ℕ) → a.written ≡ 0 → Grown n l a a from from
   unfolding piece_of
-  grown_none entry from = record { text = []; there = nothing entry 0 (omega arith); rest = rw sub-zero }
+  grown_none a from none = record { text = []; there = nothing a a.in_bounds; rest = rw (none, sub-zero) }
 
-  pub grown_more : {a b c : List ℕ} {from t at r : ℕ} → Grown n l a b from t at → t < printed_changes (list_checked n l) → 3072 ≤ length a - at
-      → Appended b c at r (change_lines n l t) → Grown n l a c from (t + 1) r
-  grown_more {a} {b} {c} {from} {t} {at} {r} g early room p = record {
+  pub grown_more : {a b c : Text} {from t : ℕ} → Grown n l a b from t → t < printed_changes (list_checked n l) → 3072 ≤ length a.bytes.now - b.written
+      → Appended b c (change_lines n l t) → Grown n l a c from (t + 1)
+  grown_more {a} {b} {c} {from} {t} g early room p = record {
     text = g.text ++ change_lines n l t;
     there = g.there then p;
-    rest = g.rest ∙ rw (left, page_more lines (T - (t + 1)) t (length a - at) room, append_assoc, ← add-one t, here);
+    rest = g.rest ∙ rw (left, page_more lines (T - (t + 1)) t (length a.bytes.now - b.written) room, append_assoc, ← add-one t, here);
   }
     where
       lines : ℕ → List ℕ
@@ -104,15 +116,17 @@ module _ (n l : List ℕ) where
       left : T - t ≡ suc (T - (t + 1))
       left = omega arith
 
-      here : length a - at - length (lines t) ≡ length a - r
-      here = omega (arith, p.after)
+      here : length a.bytes.now - b.written - length (lines t) ≡ length a.bytes.now - c.written
+      here = omega (arith, p.written)
 
-  pub grown_all : {a b : List ℕ} {from t at : ℕ} → Grown n l a b from t at
-      → page (change_lines n l) (printed_changes (list_checked n l) - t) t (length a - at) ≡ empty (Change t)
-      → Written (piece_of n l (length a) (Change from)) a b (record { length = at; next = Change t })
-  grown_all {t = t} g end = rw (g.rest, end, append-nil) (written (Change t) g.there)
+  pub grown_all : {entry exit : List ℕ} {r : ℕ} {a b : Text} {from t : ℕ} → Lent entry exit r a b → Grown n l a b from t
+      → page (change_lines n l) (printed_changes (list_checked n l) - t) t (length a.bytes.now - b.written) ≡ empty (Change t)
+      → Written (piece_of n l (length entry) (Change from)) entry exit (record { length = r; next = Change t })
+  grown_all {t = t} lent g end = rw (← lent.starts, g.rest, end, append-nil) (written (Change t) (record { starts = refl; none = lent.none; ends = lent.ends; all = lent.all }) g.there)
 
   -- nothing is left to print
   pub written_none : (entry : List ℕ) (from : ℕ) → printed_changes (list_checked n l) ≤ from
       → Written (piece_of n l (length entry) (Change from)) entry entry (record { length = 0; next = Change from })
-  written_none entry from h = grown_all (grown_none entry from) (page_none (change_lines n l) _ from _ (omega arith))
+  unfolding piece_of
+  written_none entry from h =
+      rw (page_none (change_lines n l) (printed_changes (list_checked n l) - from) from (length entry) (omega arith)) (written_empty entry (Change from))

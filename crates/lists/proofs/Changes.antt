@@ -1,5 +1,5 @@
 -- The changes of an accepted list: the rows of each method, and how far it counts. Assumes nothing.
-use Rattle.std.proofs.Common.{◌≡◌, ℕ, zero, suc, ◌+◌, ◌*◌, ◌<◌, ◌≤◌, true, List, ◌++◌, get_or, drop, sym, refl, ap, ◌∙◌, ap₂, le_trans, suc-mul, add_comm, add-one, arith}
+use Rattle.std.proofs.Common.{◌≡◌, ℕ, zero, suc, ◌+◌, ◌*◌, ◌<◌, ◌≤◌, List, ◌++◌, Ok, get_or, drop, sym, refl, ap, ◌∙◌, ap₂, le_trans, suc-mul, add_comm, add-one, arith}
 use mathlib.Core.Option.{Option}
 use Rattle.kung.specs.Class.{Class}
 use Rattle.kung.specs.Rule.{some}
@@ -12,11 +12,11 @@ use Rattle.netlist.specs.Netlist.{inputs_of, gates_of, outputs_of, output_at, ca
 use Rattle.netlist.specs.Formed.{Formed}
 use Rattle.netlist.proofs.Accepted.{formed}
 use Rattle.changes.specs.declared.Task.{Task}
-use Rattle.changes.specs.declared.Listed.TheVariants.{Accepted}
 use Rattle.changes.specs.Changes.{layout_in, input_class_at}
-use Rattle.changes.specs.Lent.{Accepts, signals_of}
+use Rattle.changes.specs.Lent.{signals_of}
 use Rattle.changes.specs.Refusals.{list_checked}
 use Rattle.changes.proofs.Accepted.{listed}
+use Rattle.jobs.specs.declared.Job.{Job}
 use Rattle.inputs.specs.Written.{written}
 use Rattle.inputs.proofs.Laws.{written_all}
 use Rattle.simulate.proofs.Theorems.{codes_length}
@@ -37,6 +37,7 @@ use Rattle.constants.proofs.Touched.{sum_ext}
 use Rattle.forward.proofs.Changes.{tab_ext}
 use Rattle.forward.specs.Forward.{output_search, visited_in, forward_bytes}
 use Rattle.lists.specs.Methods.{core_bytes, core_sum, full_of, forward_of, core_of}
+use Rattle.lists.specs.Lent.{full_for, forward_for, core_for}
 use Rattle.lists.proofs.Rows.{Regular}
 
 -- numbers of at most b each
@@ -66,7 +67,7 @@ pub counted_next : {f : ℕ → ℕ} {c sum : ℕ} → Counted f c sum → (more
 unfolding sum_below
 counted_next {c = c} s more e h = record { is = rw (s.is, e, add-one c) (add_comm _ _); high = omega (arith, s.high) }
 
-module _ {task : Task} (n l : List ℕ) (accepted : list_checked n l ≡ Accepted task) where
+module _ {task : Task} (n l : List ℕ) (accepted : list_checked n l ≡ Ok task) where
   abbrev o : ℕ
   o = task.shape.outputs
 
@@ -109,29 +110,53 @@ module _ {task : Task} (n l : List ℕ) (accepted : list_checked n l ≡ Accepte
         outputs_high _ (λ k h. omega (arith, pins k)),
       )
 
--- CORE on a change: the inputs are known, and no gate
-module _ (n l rows : List ℕ) (task : Task) (a : Accepts true n l rows task) (c : ℕ) (known : List ℕ)
-    (is : known ≡ inputs_known (inputs_of n) (gates_of n) (input_class_at l (layout_in n l) c)) (wanted : List ℕ) (wants : wanted ≡ sets_at l task.layout c) where
+-- so in a job
+module _ (job : Job) where
+  pub full_regular_for : Regular (full_for job) (signals_of job.task.shape)
+  full_regular_for = full_regular _ _ job.accepts.accepted
+
+  pub forward_regular_for : Regular (forward_for job) job.task.shape.outputs
+  forward_regular_for = forward_regular _ _ job.accepts.accepted
+
+  pub core_regular_for : Regular (core_for job) job.task.shape.outputs
+  core_regular_for = core_regular _ _ job.accepts.accepted
+
+-- what CORE knows of a change: the inputs, and no gate
+abbrev pub inputs_for : Job → (t : ℕ) → List ℕ
+inputs_for job t =
+    inputs_known (inputs_of job.netlist.now) (gates_of job.netlist.now) (input_class_at job.list.now (layout_in job.netlist.now job.list.now) t)
+
+-- CORE on a change
+module _ (job : Job) (c : ℕ) (known : List ℕ) (is : known ≡ inputs_for job c) (wanted : List ℕ) (wants : wanted ≡ sets_at job.list.now job.task.layout c) where
+  abbrev n : List ℕ
+  n = job.netlist.now
+
+  abbrev l : List ℕ
+  l = job.list.now
+
+  abbrev rows : List ℕ
+  rows = job.rows.now
+
   abbrev outputs : ℕ
-  outputs = task.shape.outputs
+  outputs = job.task.shape.outputs
 
   abbrev signals : ℕ
-  signals = signals_of task.shape
+  signals = signals_of job.task.shape
 
   search_same : (out : ℕ) → out < outputs → search_from rows known wanted signals out ≡ search_of n l c out
   unfolding search_from search_of
   search_same out h =
-      search_is n l rows task a c known is (get_or wanted out 0) _
-      ∙ ap₂ (search _) (sets_in n l a.accepted c wanted wants out h) (output_is n l rows task a out h)
+      search_is _ _ _ _ job.accepts c known is (get_or wanted out 0) _
+      ∙ ap₂ (search _) (sets_in n l job.accepts.accepted c wanted wants out h) (output_is _ _ _ _ job.accepts out h)
 
   pub sums_are : (count : Answer → ℕ) → sum_from count rows known wanted signals outputs ≡ core_sum count n l c
   unfolding core_sum
   sums_are count =
-      sum_ext _ _ outputs (λ out h. ap count (search_same out h)) ∙ ap (sum_below _) (card n l a.accepted).outputs_are
+      sum_ext _ _ outputs (λ out h. ap count (search_same out h)) ∙ ap (sum_below _) (card n l job.accepts.accepted).outputs_are
 
   pub bytes_are : (old : List ℕ) → written old 0 (byte_from rows known wanted signals) outputs ≡ core_bytes n l c ++ drop outputs old
   unfolding core_bytes
   bytes_are old =
       written_all old (byte_from rows known wanted signals) outputs
       ∙ ap (λ bytes. bytes ++ drop outputs old)
-      (tab_ext _ _ outputs (λ out h. ap (λ a. verdict_byte a.verdict) (search_same out h)) ∙ ap (tab _ 0) (card n l a.accepted).outputs_are)
+      (tab_ext _ _ outputs (λ out h. ap (λ a. verdict_byte a.verdict) (search_same out h)) ∙ ap (tab _ 0) (card n l job.accepts.accepted).outputs_are)

@@ -1,3 +1,4 @@
 pub mod Rows
 pub mod Changes
+mod Turns
 mod Left

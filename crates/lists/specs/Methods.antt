@@ -10,7 +10,6 @@ use Rattle.outputs.specs.Outputs.{verdict_byte}
 use Rattle.constants.specs.Change.{touched_in}
 use Rattle.forward.specs.Forward.{visited_in, forward_bytes}
 use Rattle.lists.specs.declared.Judged.{Judged}
-use Rattle.lists.specs.declared.Judged.TheVariants.{Done}
 
 -- row 0, row 1 and so on, n rows, one after the other
 unfoldable pub rows : (ℕ → List ℕ) → ℕ → List ℕ
@@ -52,4 +51,4 @@ core_of n l =
 
 -- what a method answers for T changes
 abbrev pub done_for : Method → (T : ℕ) → Judged
-done_for m T = Done T m.width (m.first T) (m.second T)
+done_for m T = record { changes = T; width = m.width; first = m.first T; second = m.second T }

@@ -1,52 +1,40 @@
 // The three loops over the changes of an accepted list, one for each method: its rows go into the buffer one after the other.
 #![tactic(auto)]
 
-ghost use Rattle.std.specs.Prelude.{◌≡◌, ◌*◌, ◌≤◌, true, length};
-ghost use Rattle.changes.specs.Lent.{Accepts, signals_of};
+ghost use Rattle.std.specs.Prelude.{◌≡◌, ◌*◌, ◌≤◌, length};
+ghost use Rattle.changes.specs.Lent.{signals_of};
 ghost use Rattle.core_search.specs.Lent.{NoneKnown};
-ghost use Rattle.lists.specs.Methods.{full_of, forward_of, core_of};
-ghost use Rattle.lists.specs.Lent.{Judges};
+ghost use Rattle.lists.specs.Lent.{full_for, forward_for, core_for, Judges};
 ghost use Rattle.lists.specs.Left.{after, heated, known_constants, filled};
 
-use changes::Task;
+use jobs::Job;
 
-// The answer of a method: the number of changes, the bytes of each and two sums over all changes; or a refusal.
-#[derive(Drop)]
-pub enum Judged {
-    Done {
-        changes: usize,
-        width: usize,
-        first: usize,
-        second: usize,
-    },
-    Refused(u8, usize),
+// The answer of a method: the number of changes, the bytes of each and two sums over all changes.
+#[derive(Clone, Copy)]
+pub struct Judged {
+    pub changes: usize,
+    pub width: usize,
+    pub first: usize,
+    pub second: usize,
 }
 
-// Full simulation of each change. Of the netlist only its rows are read: it says what they decode.
-pub fn full_rows(
-    netlist: &[u8],
-    list: &[u8],
-    task: Task,
-    rows: &[u16],
-    hot: &mut [u8],
-    buffer: &mut [u8],
-) -> Judged
-    requires accepts { Accepts true netlist.now list.now rows.now task × (task.changes * signals_of task.shape ≤ length buffer.old) }
-    requires shape_in_bounds { signals_of task.shape ≤ length hot.old }
-    ensures judges { Judges (full_of netlist.now list.now) task.changes buffer.old buffer.new result }
-    ensures hot { hot.new ≡ after (heated netlist.now list.now task) task.changes hot.old }
+// Full simulation of each change.
+pub fn full_rows(job: Job<'_>, hot: &mut [u8], buffer: &mut [u8]) -> Judged
+    requires buffer_in_bounds { job.task.changes * signals_of job.task.shape ≤ length buffer.old }
+    requires shape_in_bounds { signals_of job.task.shape ≤ length hot.old }
+    ensures judges { Judges (full_for job.entry) job.entry.task.changes buffer.old buffer.new result }
+    ensures hot { hot.new ≡ after (heated job.entry) job.entry.task.changes hot.old }
 {
-    let table = tables::gate_table();
-    let shape = task.shape;
+    let shape = job.task.shape;
     let signals = shape.inputs + shape.gates;
-    for change in 0..task.changes {
+    for change in 0..job.task.changes {
         let at = change * signals;
         let row = &mut buffer[at..];
-        inputs::fill_inputs(list, task, change, row);
-        sweep::pass(&table, rows, shape.inputs, shape.gates, hot, row);
+        inputs::fill_inputs(job.list, job.task, change, row);
+        sweep::pass(job.rows, shape.inputs, shape.gates, hot, row);
     }
-    Judged::Done {
-        changes: task.changes,
+    Judged {
+        changes: job.task.changes,
         width: signals,
         first: 0,
         second: 0,
@@ -54,36 +42,25 @@ pub fn full_rows(
 }
 
 // The forward method on each change.
-pub fn forward_rows(
-    netlist: &[u8],
-    list: &[u8],
-    task: Task,
-    rows: &[u16],
-    known: &mut [u8],
-    hot: &mut [u8],
-    buffer: &mut [u8],
-) -> Judged
-    requires accepts { Accepts true netlist.now list.now rows.now task × (task.changes * task.shape.outputs ≤ length buffer.old) }
-    requires shape_in_bounds { (signals_of task.shape ≤ length known.old) × (length known.old ≤ length hot.old) }
-    ensures judges { Judges (forward_of netlist.now list.now) task.changes buffer.old buffer.new result }
-    ensures known { known.new ≡ after (known_constants netlist.now list.now task) task.changes known.old }
-    ensures hot { hot.new ≡ after (heated netlist.now list.now task) task.changes hot.old }
+pub fn forward_rows(job: Job<'_>, known: &mut [u8], hot: &mut [u8], buffer: &mut [u8]) -> Judged
+    requires buffer_in_bounds { job.task.changes * job.task.shape.outputs ≤ length buffer.old }
+    requires shape_in_bounds { (signals_of job.task.shape ≤ length known.old) × (length known.old ≤ length hot.old) }
+    ensures judges { Judges (forward_for job.entry) job.entry.task.changes buffer.old buffer.new result }
+    ensures known { known.new ≡ after (known_constants job.entry) job.entry.task.changes known.old }
+    ensures hot { hot.new ≡ after (heated job.entry) job.entry.task.changes hot.old }
 {
-    let table = tables::gate_table();
-    let search = tables::search();
-    let shape = task.shape;
+    let shape = job.task.shape;
     let signals = shape.inputs + shape.gates;
     let outputs = shape.outputs;
     let mut touched: usize = 0;
     let mut visited: usize = 0;
-    for change in 0..task.changes {
+    for change in 0..job.task.changes {
         let at = change * outputs;
-        inputs::fill_inputs(list, task, change, known);
-        touched += forward::spread(&table, rows, shape.inputs, shape.gates, known, hot);
-        let wanted = wanted::wanted_sets(list, task.layout, change);
+        inputs::fill_inputs(job.list, job.task, change, known);
+        touched += forward::spread(job.rows, shape.inputs, shape.gates, known, hot);
+        let wanted = wanted::wanted_sets(job.list, job.task.layout, change);
         let searched = outputs::search_outputs(
-            &search,
-            rows,
+            job.rows,
             shape,
             &wanted,
             &mut known[..signals],
@@ -91,8 +68,8 @@ pub fn forward_rows(
         );
         visited += searched.gates;
     }
-    Judged::Done {
-        changes: task.changes,
+    Judged {
+        changes: job.task.changes,
         width: outputs,
         first: touched,
         second: visited,
@@ -100,32 +77,23 @@ pub fn forward_rows(
 }
 
 // CORE on each change, which writes only the inputs' bytes of `known`.
-pub fn core_rows(
-    netlist: &[u8],
-    list: &[u8],
-    task: Task,
-    rows: &[u16],
-    known: &mut [u8],
-    buffer: &mut [u8],
-) -> Judged
-    requires accepts { Accepts true netlist.now list.now rows.now task × (task.changes * task.shape.outputs ≤ length buffer.old) }
-    requires shape_in_bounds { (signals_of task.shape ≤ length known.old) × NoneKnown task.shape.inputs known.old }
-    ensures judges { Judges (core_of netlist.now list.now) task.changes buffer.old buffer.new result }
-    ensures known { known.new ≡ after (filled list.now task) task.changes known.old }
+pub fn core_rows(job: Job<'_>, known: &mut [u8], buffer: &mut [u8]) -> Judged
+    requires buffer_in_bounds { job.task.changes * job.task.shape.outputs ≤ length buffer.old }
+    requires shape_in_bounds { (signals_of job.task.shape ≤ length known.old) × NoneKnown job.task.shape.inputs known.old }
+    ensures judges { Judges (core_for job.entry) job.entry.task.changes buffer.old buffer.new result }
+    ensures known { known.new ≡ after (filled job.entry) job.entry.task.changes known.old }
 {
-    let search = tables::search();
-    let shape = task.shape;
+    let shape = job.task.shape;
     let signals = shape.inputs + shape.gates;
     let outputs = shape.outputs;
     let mut visited: usize = 0;
     let mut taken: usize = 0;
-    for change in 0..task.changes {
+    for change in 0..job.task.changes {
         let at = change * outputs;
-        inputs::fill_inputs(list, task, change, known);
-        let wanted = wanted::wanted_sets(list, task.layout, change);
+        inputs::fill_inputs(job.list, job.task, change, known);
+        let wanted = wanted::wanted_sets(job.list, job.task.layout, change);
         let searched = outputs::search_outputs(
-            &search,
-            rows,
+            job.rows,
             shape,
             &wanted,
             &mut known[..signals],
@@ -134,8 +102,8 @@ pub fn core_rows(
         visited += searched.gates;
         taken += searched.pins;
     }
-    Judged::Done {
-        changes: task.changes,
+    Judged {
+        changes: job.task.changes,
         width: outputs,
         first: visited,
         second: taken,

@@ -8,6 +8,8 @@ use mathlib.Core.List.{List, [], ◌∷◌, ◌++◌, append_assoc}
 use borrow.Author.Tests.{lt-ltb, le-ltb, ltb-true, ltb-false, leb-true, leb-false}
 use borrow.Author.Count.{below_more}
 use lib.Bits.{bit_or}
+use Rattle.std.specs.Int.Bits.{or_zero_r}
+use Rattle.std.proofs.Math.Bool.{and-true, and-false}
 use lib.Dec.{eqb, leb, ltb}
 use lib.ListN.{length, get_or, take, drop, set, length-append, length-drop, drop_of_length-le, get_or-append}
 use mir.Val.{bool_byte}
@@ -16,9 +18,9 @@ use Rattle.kung.specs.Rule.{each}
 use Rattle.kung.specs.Sets.{bit}
 use Rattle.kung.specs.Tables.{tab}
 use Rattle.kung.proofs.Listed.{get_d_tab, length_tab}
-use Rattle.kung.proofs.Unions.{eqb_bit, bit_lt}
+use Rattle.kung.proofs.Unions.{eqb_bit}
 use Rattle.words.specs.Words.{word_at}
-use Rattle.making.specs.Making.{pin_or, eight_at, ones, put_at}
+use Rattle.making.specs.Making.{pin_or, eight_at, put_at}
 
 -- the numbers of a list below a place are those of a rule; one more is
 abbrev pub Filled : (ℕ → ℕ) → List ℕ → (j : ℕ) → Type 0
@@ -56,43 +58,27 @@ pub pin_past : (s : List ℕ) (at count past k : ℕ) → count ≤ k → past �
 unfolding pin_or
 pin_past s at count past k h = rw (le-ltb k count h)
 
-pub filled_rest : (s : List ℕ) (at count past : ℕ) (row : List ℕ) → Filled (pin_or s at count past) row count
-    → ((k : ℕ) → count ≤ k → k < 8 → get_or row k 0 ≡ past) → Filled (pin_or s at count past) row 8
-filled_rest s at count past row own rest k h = go (ltb k count) refl
-  where
-    go : (b : Bool) → ltb k count ≡ b → get_or row k 0 ≡ pin_or s at count past k
-    go true e = own k (ltb-true k count e)
-    go false e = let l = ltb-false k count e in rest k l h ∙ pin_past s at count past k l
+-- the window says which they are: its number i is 1 where i is below 8
+abbrev pub window : List ℕ
+window = 1 ∷ 1 ∷ 1 ∷ 1 ∷ 1 ∷ 1 ∷ 1 ∷ 1 ∷ 0 ∷ 0 ∷ 0 ∷ 0 ∷ 0 ∷ 0 ∷ 0 ∷ 0 ∷ []
 
--- the window says which they are
-ones_at : (i : ℕ) → i < 16 → get_or ones i 0 ≡ bit (ltb i 8)
-unfolding ones
-ones_at i h = get_d_tab _ 16 i h
+window_at : (i : ℕ) → i < 16 → get_or window i 0 ≡ bit (ltb i 8)
+unfolding tab
+window_at i h = get_d_tab (λ i. bit (ltb i 8)) 16 i h
 
-pub ones_low : (i : ℕ) → i < 16 → get_or ones i 0 ≤ 1
-ones_low i h = rw (ones_at i h) (omega (arith, bit_lt (ltb i 8)))
-
-window_own : (count j : ℕ) → count ≤ 8 → j < 8 → eqb (get_or ones (8 - count + j) 0) 1 ≡ ltb j count
-window_own count j h l = rw (ones_at (8 - count + j) (omega arith), eqb_bit) (go (ltb (8 - count + j) 8) refl)
+window_own : (count j : ℕ) → count ≤ 8 → j < 8 → eqb (get_or window (8 - count + j) 0) 1 ≡ ltb j count
+window_own count j h l = rw (window_at (8 - count + j) (omega arith), eqb_bit) (go (ltb (8 - count + j) 8) refl)
   where
     go : (b : Bool) → ltb (8 - count + j) 8 ≡ b → b ≡ ltb j count
     go true e = sym (lt-ltb j count (omega (arith, ltb-true (8 - count + j) 8 e)))
     go false e = sym (le-ltb j count (omega (arith, ltb-false (8 - count + j) 8 e)))
 
 pub window_pin : (s : List ℕ) (at count past j : ℕ) → count ≤ 8 → j < 8
-    → cond (eqb (get_or ones (8 - count + j) 0) 1) (word_at s (at + 2 * j)) past ≡ pin_or s at count past j
+    → cond (eqb (get_or window (8 - count + j) 0) 1) (word_at s (at + 2 * j)) past ≡ pin_or s at count past j
 unfolding pin_or
 window_pin s at count past j h l = rw (window_own count j h l)
 
-pub picked : (own a b : ℕ) → own ≤ 1 → own * a + (1 - own) * b ≡ cond (eqb own 1) a b
-picked zero a b h = omega arith
-picked (suc zero) a b h = omega arith
-picked (suc (suc n)) a b h = absurd (omega arith)
-
 -- of the numbers passed none is high, and those left are below
-pub below_start : (row : List ℕ) (bound : ℕ) → each (λ x. ltb x bound) row ≡ eqb 0 0 && each (λ x. ltb x bound) (drop 0 row)
-below_start row bound = refl
-
 high_more : (high bound x : ℕ) (b : Bool) → high ≤ 1 → eqb high 0 && (ltb x bound && b) ≡ eqb (bit_or high (bool_byte (leb bound x))) 0 && b
 high_more high bound x b low = go (leb bound x) refl
   where
@@ -101,18 +87,9 @@ high_more high bound x b low = go (leb bound x) refl
     or_high (suc zero) h = refl
     or_high (suc (suc n)) h = absurd (omega arith)
 
-    or_none : (high : ℕ) → high ≤ 1 → bit_or high 0 ≡ high
-    or_none zero h = refl
-    or_none (suc zero) h = refl
-    or_none (suc (suc n)) h = absurd (omega arith)
-
-    never : (c : Bool) → c && false ≡ false
-    never true = refl
-    never false = refl
-
     go : (d : Bool) → leb bound x ≡ d → eqb high 0 && (ltb x bound && b) ≡ eqb (bit_or high (bool_byte d)) 0 && b
-    go true e = rw (le-ltb x bound (leb-true bound x e), or_high high low) (never (eqb high 0))
-    go false e = rw (lt-ltb x bound (leb-false bound x e), or_none high low)
+    go true e = rw (le-ltb x bound (leb-true bound x e), or_high high low, and-false (eqb high 0)) refl
+    go false e = rw (lt-ltb x bound (leb-false bound x e), or_zero_r high)
 
 pub or_low : (high : ℕ) (b : Bool) → high ≤ 1 → bit_or high (bool_byte b) ≤ 1
 or_low zero true h = omega arith
@@ -132,11 +109,7 @@ below_more_high row bound high j low h e =
 
 pub below_end : (row : List ℕ) (bound high j : ℕ) → length row ≤ j → eqb high 0 && each (λ x. ltb x bound) (drop j row) ≡ eqb high 0
 unfolding each
-below_end row bound high j h = rw (drop_of_length-le row {i = j} h) (and_true (eqb high 0))
-  where
-    and_true : (b : Bool) → b && true ≡ b
-    and_true true = refl
-    and_true false = refl
+below_end row bound high j h = rw (drop_of_length-le row {i = j} h, and-true (eqb high 0)) refl
 
 -- numbers written where they have room, and where they have none
 pub put_in : (rows : List ℕ) (at : ℕ) (xs : List ℕ) → at + length xs ≤ length rows → put_at rows at xs ≡ take at rows ++ (xs ++ drop (at + length xs) rows)

@@ -1,6 +1,5 @@
 -- How rows are made: a record's pins read as eight numbers, and numbers written where they have room.
 use Rattle.std.specs.Prelude.{ℕ, ◌+◌, ◌-◌, ◌*◌, Bool, cond, List, ◌++◌, ltb, length, take, drop}
-use Rattle.kung.specs.Sets.{bit}
 use Rattle.kung.specs.Tables.{tab}
 use Rattle.words.specs.Words.{word_at}
 
@@ -24,10 +23,6 @@ row_at repeated s at count = eight_at s at count (past_of repeated s at count)
 -- the pins alone, and 0 past the last
 abbrev pub own_at : List ℕ → (at count : ℕ) → List ℕ
 own_at s at count = eight_at s at count 0
-
--- eight 1 and eight 0: of the eight from 8 - count on, the first `count` are 1
-unfoldable pub ones : List ℕ
-ones = tab (λ i. bit (ltb i 8)) 0 16
 
 -- numbers written from a place on, where they have room; else nothing is
 unfoldable pub put_at : List ℕ → (at : ℕ) → List ℕ → List ℕ

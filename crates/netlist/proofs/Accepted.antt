@@ -3,21 +3,19 @@ use Prim.Native.Nat.{ℕ, zero, suc, ◌+◌, ◌*◌, ◌≤◌, ◌<◌}
 use native.Mathlib.Omega.{arith}
 use native.Mathlib.Nat.{add-zero, zero-add}
 use mathlib.Core.Path.{◌≡◌, sym, ap}
-use mathlib.Core.Bool.{Bool, false}
 use mathlib.Core.List.{List}
 use borrow.Author.Tests.{leb-false, ltb-false}
 use lib.ListN.{length}
+use Rattle.std.specs.Prelude.{Ok}
 use Rattle.circuit.specs.Circuit.{Each}
 use Rattle.words.specs.Words.{word_at, words_at}
-use Rattle.words.specs.Refusal.{refuse}
 use Rattle.words.proofs.Laws.{within}
-use Rattle.words.proofs.Refusal as words
+use Rattle.refusals.specs.declared.Refusal.{Refusal}
+use Rattle.refusals.proofs.Laws.{passed}
 use Rattle.records.specs.Records.{kind_at, count_at, pin_at, no_kind, least_pins, most_pins}
 use Rattle.records.proofs.Meanings.{least_some, most_eight}
 use Rattle.netlist.specs.declared.Shape.{Shape}
-use Rattle.netlist.specs.declared.Checked.{Checked}
-use Rattle.netlist.specs.declared.Checked.TheVariants.{Accepted, Refused}
-use Rattle.netlist.specs.Netlist.{inputs_of, gates_of, outputs_of, place_of, pins_below, pin_total, entries_at, outputs_end, card_of}
+use Rattle.netlist.specs.Netlist.{Checked, inputs_of, gates_of, outputs_of, place_of, pins_below, pin_total, entries_at, outputs_end, card_of}
 use Rattle.netlist.specs.Netlist.{words_below, record_at, records_from}
 use Rattle.netlist.specs.Netlist.{opening, counts, outputs, shape_of, accepted, body, body_within, checked_within, checked}
 use Rattle.netlist.specs.Formed.{RecordFormed, Formed}
@@ -52,18 +50,15 @@ pins_high s gates r (suc g) h = omega (arith, pins_high s gates r g (omega arith
 -- a chain of refusals that ends in acceptance was passed at each step
 module _ (shape : Shape) where
   abbrev Passed : Checked → Type 0
-  Passed answer = answer ≡ Accepted shape
+  Passed answer = answer ≡ Ok shape
 
-  passed : (b : Bool) (number place : ℕ) (next : Checked) → Passed (refuse Refused b number place next) → (b ≡ false) × Passed next
-  passed b number place next = words.passed Refused b number place next (Accepted shape) (λ d. let z : ◌≡◌ {A = ℕ} 0 1 = cc in absurd (omega arith))
-
-  words_passed : (n : ℕ) (s : List ℕ) (at bound number : ℕ) (next : Checked) → Passed (words_below n s at bound number next)
+  words_passed : (n : ℕ) (s : List ℕ) (at bound : ℕ) (refusal : (at : ℕ) → Refusal) (next : Checked) → Passed (words_below n s at bound refusal next)
       → ((k : ℕ) → k < n → word_at s (at + 2 * k) < bound) × Passed next
   unfolding words_below
-  words_passed zero s at bound number next h = (λ k l. absurd (omega arith), h)
-  words_passed (suc n) s at bound number next h =
+  words_passed zero s at bound refusal next h = (λ k l. absurd (omega arith), h)
+  words_passed (suc n) s at bound refusal next h =
       let first = passed _ _ _ _ h in
-      let rest = words_passed n s (at + 2) bound number next first.1 in (
+      let rest = words_passed n s (at + 2) bound refusal next first.1 in (
         first_then (λ k. word_at s (at + 2 * k) < bound) n (rw add-zero (leb-false bound (word_at s at) first.0))
             (λ k l. let d : at + 2 * suc k ≡ at + 2 + 2 * k = omega arith in rw d (rest.0 k l)),
         rest.1,
@@ -158,6 +153,6 @@ module _ (shape : Shape) where
         whole = omega (arith, t.1);
       }
 
-pub formed : {shape : Shape} (s : List ℕ) → checked s ≡ Accepted shape → Formed s shape
+pub formed : {shape : Shape} (s : List ℕ) → checked s ≡ Ok shape → Formed s shape
 unfolding checked
 formed {shape} s h = formed_within shape 2304 1 s h

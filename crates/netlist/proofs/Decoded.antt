@@ -9,6 +9,7 @@ use borrow.Author.Tests.{ltb-true, ltb-false}
 use lib.Dec.{ltb}
 use lib.ListN.{length, get_or, length-append, get_or-append}
 use lib.Seq.{ext_get_or, get_or_at}
+use Rattle.std.specs.Prelude.{Ok}
 use Rattle.kung.specs.Rule.{kind_of}
 use Rattle.kung.specs.Tables.{tab}
 use Rattle.kung.proofs.Listed.{get_d_tab, length_tab}
@@ -24,9 +25,7 @@ use Rattle.rows.proofs.Told.{Takes, word_count, word_kind}
 use Rattle.records.specs.Records.{kind_at, count_at, pin_at, least_pins, most_pins}
 use Rattle.records.specs.Reading.{word_of}
 use Rattle.netlist.specs.declared.Shape.{Shape}
-use Rattle.netlist.specs.declared.Checked.{Checked}
-use Rattle.netlist.specs.declared.Checked.TheVariants.{Accepted}
-use Rattle.netlist.specs.Netlist.{inputs_of, gates_of, outputs_of, place_of, entries_at, output_at, gate_kind, gate_pins, card_of}
+use Rattle.netlist.specs.Netlist.{Checked, inputs_of, gates_of, outputs_of, place_of, entries_at, output_at, gate_kind, gate_pins, card_of}
 use Rattle.netlist.specs.Netlist.{records_from, body, checked}
 use Rattle.netlist.specs.Formed.{RecordFormed, Formed}
 use Rattle.netlist.specs.Decoded.{record_fits, row_of, rows_from, early, with_outputs, decoded_by, decoded, Decoded}
@@ -94,7 +93,7 @@ rows_own repeated (suc n) g s rows f h (suc k) j l m =
     (ap (λ (t : List ℕ). get_or t (9 * (inputs_of s + (suc g + k)) + j) 0) (rows_step repeated n g s rows f)
     ∙ rows_own repeated n (suc g) s _ (fits_next s g n f) (rw length_put (omega arith)) k j (omega arith) m)
 
-fits_all : {shape : Shape} (n g : ℕ) (s : List ℕ) (next : Checked) → records_from n g s next ≡ Accepted shape → Fits s g n
+fits_all : {shape : Shape} (n g : ℕ) (s : List ℕ) (next : Checked) → records_from n g s next ≡ Ok shape → Fits s g n
 unfolding records_from
 fits_all zero g s next e k h = absurd (omega arith)
 fits_all (suc n) g s next e zero h = rw (add-zero g) (fits_accepted s _ _ _ e).0
@@ -119,7 +118,7 @@ tab_words f n s at h =
     ext_get_or 0 (tab f 0 n) (words_at n s at) (length_tab f 0 n ∙ sym (words_length n s at))
     (λ k l. let m : k < n = rw (length_tab f 0 n) at l in get_d_tab f n k m ∙ h k m ∙ sym (words_at_lem n s at k m))
 
-module _ {shape : Shape} (repeated : Bool) (s old : List ℕ) (ok : checked s ≡ Accepted shape) (room : 9 * (shape.inputs + shape.gates) + shape.outputs ≤ length old) where
+module _ {shape : Shape} (repeated : Bool) (s old : List ℕ) (ok : checked s ≡ Ok shape) (room : 9 * (shape.inputs + shape.gates) + shape.outputs ≤ length old) where
   form : Formed s shape
   form = formed s ok
 

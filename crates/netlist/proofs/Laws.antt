@@ -1,5 +1,5 @@
 -- Laws of the places of records. Assumes nothing.
-use Prim.Native.Nat.{ℕ, zero, suc, ◌+◌, ◌-◌, ◌*◌, ◌/◌, ◌≤◌}
+use Prim.Native.Nat.{ℕ, zero, suc, ◌+◌, ◌-◌, ◌*◌, ◌/◌}
 use native.Mathlib.Omega.{arith}
 use native.Mathlib.Numerals.{add-one}
 use mathlib.Core.Path.{◌≡◌, refl}
@@ -19,8 +19,5 @@ place_pins s zero = refl
 place_pins s (suc g) = omega (arith, place_pins s g)
 
 -- the pins together, by the place of the output entries
-pub pins_room : (s : List ℕ) {gates at : ℕ} → gates ≡ gates_of s → at ≡ entries_at s → (11 ≤ at) × (gates ≤ (at - 11) / 2)
-pins_room s g e = let p = place_pins s (gates_of s) in (omega arith, omega arith)
-
 pub pins_read : (s : List ℕ) {gates at : ℕ} → gates ≡ gates_of s → at ≡ entries_at s → (at - 11) / 2 - gates ≡ pin_total s
 pins_read s g e = omega (arith, place_pins s (gates_of s))

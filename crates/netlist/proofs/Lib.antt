@@ -1,5 +1,6 @@
 pub mod Laws
 pub mod Refusals
+pub mod Entries
 pub mod Accepted
 pub mod Heads
 pub mod Passing

@@ -1,20 +1,19 @@
 -- A netlist decoded into rows: what `decode` leaves in the numbers that are lent to it, and what an accepted netlist's rows say.
-use Rattle.std.specs.Prelude.{ℕ, zero, suc, ◌+◌, ◌*◌, ◌≤◌, ◌<◌, ◌≡◌, Bool, true, false, cond, List, [], ◌∷◌, ◌++◌, ltb, length}
+use Rattle.std.specs.Prelude.{ℕ, zero, suc, ◌+◌, ◌*◌, ◌≤◌, ◌<◌, ◌≡◌, Bool, true, false, cond, List, [], ◌∷◌, ◌++◌, ltb, length, Ok, Err}
 use Rattle.words.specs.Words.{words_at}
 use Rattle.rows.specs.Rows.{row_kind, row_pins, output_in}
 use Rattle.rows.specs.Lent.{GateRow, Repeats}
 use Rattle.making.specs.Making.{row_at, put_at}
 use Rattle.records.specs.Records.{count_at}
 use Rattle.records.specs.Reading.{word_of}
-use Rattle.netlist.specs.declared.Checked.{Checked}
-use Rattle.netlist.specs.declared.Checked.TheVariants.{Accepted, Refused}
-use Rattle.netlist.specs.Netlist.{inputs_of, gates_of, outputs_of, place_of, entries_at, output_at, gate_kind, gate_pins}
+use Rattle.refusals.specs.Refusal.{number_of}
+use Rattle.netlist.specs.Netlist.{Checked, inputs_of, gates_of, outputs_of, place_of, entries_at, output_at, gate_kind, gate_pins}
 use Rattle.netlist.specs.Netlist.{record_at, accepted, checked}
 
 -- whether nothing is refused
 unfoldable pub passes : Checked → Bool
-passes (Accepted shape) = true
-passes (Refused number place) = false
+passes (Ok shape) = true
+passes (Err refusal) = false
 
 -- whether nothing of the record at a place is refused
 unfoldable pub record_fits : List ℕ → (signal at : ℕ) → Bool
@@ -34,13 +33,13 @@ rows_from repeated (suc n) g s rows =
 
 -- 1 to 4 are refused before any record is read
 unfoldable pub early : Checked → Bool
-early (Accepted shape) = false
-early (Refused number place) = ltb number 5
+early (Ok shape) = false
+early (Err refusal) = ltb (number_of refusal) 5
 
 -- the outputs' signals are kept after the rows of all signals, where nothing is refused
 unfoldable pub with_outputs : Checked → List ℕ → (rows : List ℕ) → List ℕ
-with_outputs (Accepted shape) s rows = put_at rows (9 * (inputs_of s + gates_of s)) (words_at (outputs_of s) s (entries_at s))
-with_outputs (Refused number place) s rows = rows
+with_outputs (Ok shape) s rows = put_at rows (9 * (inputs_of s + gates_of s)) (words_at (outputs_of s) s (entries_at s))
+with_outputs (Err refusal) s rows = rows
 
 -- the rows that the check with this answer leaves
 unfoldable pub decoded_by : (repeated : Bool) → Checked → List ℕ → (rows : List ℕ) → List ℕ

@@ -1,13 +1,17 @@
 -- Document 01, "The card netlist": what the bytes say, and, from "Turned back, by operation", when they are refused.
-use Rattle.std.specs.Prelude.{ℕ, zero, suc, ◌+◌, ◌*◌, not, List, eqb, leb, ltb, length}
+use Rattle.std.specs.Prelude.{ℕ, zero, suc, ◌+◌, ◌*◌, not, List, eqb, leb, ltb, length, Result, Ok}
 use Rattle.kung.specs.Rule.{Kind, kind_of}
 use Rattle.circuit.specs.Circuit.{Card}
 use Rattle.words.specs.Words.{word_at, words_at, marked, outside}
-use Rattle.words.specs.Refusal.{refuse}
+use Rattle.refusals.specs.Refusal.{refuse}
+use Rattle.refusals.specs.declared.Refusal.{Refusal}
+use Rattle.refusals.specs.declared.Refusal.TheVariants.{NetlistShort, NetlistMark, NetlistVersion, Count, CutOff, Kind as KindByte, PinCount, Pin, Entry, BytesLeft, Signals}
 use Rattle.records.specs.Records.{kind_at, count_at, past_record, no_kind, least_pins, most_pins}
 use Rattle.netlist.specs.declared.Shape.{Shape}
-use Rattle.netlist.specs.declared.Checked.{Checked}
-use Rattle.netlist.specs.declared.Checked.TheVariants.{Accepted, Refused}
+
+-- the answer of a check
+abbrev pub Checked : Type 0
+Checked = Result Shape Refusal
 
 -- "A netlist is the letters `LCN`, a 16-bit version (1), three 16-bit counts: inputs I (1 to 256), gates G (0 to 2,048), outputs O (1 to
 -- 64); then G gate records; then O 16-bit output entries"
@@ -58,33 +62,33 @@ card_of s = record { inputs = inputs_of s; gates = gates_of s; kind = gate_kind 
 -- "Netlist: under 11 bytes 1 (place: the length); mark 2 (0); version 3 (3);"
 unfoldable pub opening : (version : ℕ) → List ℕ → Checked → Checked
 opening version s next =
-    refuse Refused (ltb (length s) 11) 1 (length s)
-    (refuse Refused (not (marked s 0x4C 0x43 0x4E)) 2 0
-    (refuse Refused (not (eqb (word_at s 3) version)) 3 3
+    refuse (ltb (length s) 11) (NetlistShort (length s))
+    (refuse (not (marked s 0x4C 0x43 0x4E)) NetlistMark
+    (refuse (not (eqb (word_at s 3) version)) NetlistVersion
     next))
 
 -- "I, G, O out of range 4 (5, 7, 9)."
 unfoldable pub counts : List ℕ → Checked → Checked
 counts s next =
-    refuse Refused (outside 1 256 (inputs_of s)) 4 5
-    (refuse Refused (outside 0 2048 (gates_of s)) 4 7
-    (refuse Refused (outside 1 64 (outputs_of s)) 4 9
+    refuse (outside 1 256 (inputs_of s)) (Count 5)
+    (refuse (outside 0 2048 (gates_of s)) (Count 7)
+    (refuse (outside 1 64 (outputs_of s)) (Count 9)
     next))
 
 -- the n words from `at` on in turn: the first not below the bound is refused
-unfoldable pub words_below : (n : ℕ) → List ℕ → (at bound number : ℕ) → Checked → Checked
-words_below zero s at bound number next = next
-words_below (suc n) s at bound number next = refuse Refused (leb bound (word_at s at)) number at (words_below n s (at + 2) bound number next)
+unfoldable pub words_below : (n : ℕ) → List ℕ → (at bound : ℕ) → (refusal : (at : ℕ) → Refusal) → Checked → Checked
+words_below zero s at bound refusal next = next
+words_below (suc n) s at bound refusal next = refuse (leb bound (word_at s at)) (refusal at) (words_below n s (at + 2) bound refusal next)
 
 -- "Per record: under two bytes left 5 (record start); kind 6 (its byte); pin count 7 (its byte); pins cut off 5 (record start); pin not
 -- below its gate 8 (that pin)"
 unfoldable pub record_at : List ℕ → (signal at : ℕ) → Checked → Checked
 record_at s signal at next =
-    refuse Refused (ltb (length s) (at + 2)) 5 at
-    (refuse Refused (no_kind (kind_at s at)) 6 at
-    (refuse Refused (outside (least_pins (kind_at s at)) (most_pins (kind_at s at)) (count_at s at)) 7 (at + 1)
-    (refuse Refused (ltb (length s) (past_record s at)) 5 at
-    (words_below (count_at s at) s (at + 2) signal 8
+    refuse (ltb (length s) (at + 2)) (CutOff at)
+    (refuse (no_kind (kind_at s at)) (KindByte at)
+    (refuse (outside (least_pins (kind_at s at)) (most_pins (kind_at s at)) (count_at s at)) (PinCount (at + 1))
+    (refuse (ltb (length s) (past_record s at)) (CutOff at)
+    (words_below (count_at s at) s (at + 2) signal Pin
     next))))
 
 -- the n records from gate g's on; "the first bad pin ends the reading of all records"
@@ -95,9 +99,9 @@ records_from (suc n) g s next = record_at s (inputs_of s + g) (place_of s g) (re
 -- "Then output entries cut off 5 (their start); entry not below I + G 9 (it); bytes left 10 (the first)."
 unfoldable pub outputs : List ℕ → Checked → Checked
 outputs s next =
-    refuse Refused (ltb (length s) (outputs_end s)) 5 (entries_at s)
-    (words_below (outputs_of s) s (entries_at s) (inputs_of s + gates_of s) 9
-    (refuse Refused (ltb (outputs_end s) (length s)) 10 (outputs_end s)
+    refuse (ltb (length s) (outputs_end s)) (CutOff (entries_at s))
+    (words_below (outputs_of s) s (entries_at s) (inputs_of s + gates_of s) Entry
+    (refuse (ltb (outputs_end s) (length s)) (BytesLeft (outputs_end s))
     next))
 
 -- what an accepted netlist gives
@@ -105,7 +109,7 @@ unfoldable pub shape_of : List ℕ → Shape
 shape_of s = record { inputs = inputs_of s; gates = gates_of s; outputs = outputs_of s; pins = pin_total s; entries = entries_at s }
 
 unfoldable pub accepted : List ℕ → Checked
-accepted s = Accepted (shape_of s)
+accepted s = Ok (shape_of s)
 
 -- what follows the counts
 unfoldable pub body : List ℕ → Checked
@@ -113,7 +117,7 @@ body s = records_from (gates_of s) 0 s (outputs s (accepted s))
 
 -- A caller may keep fewer signals than document 01 allows (23, place 5). One that keeps 256 + 2,048 of them never meets this limit.
 unfoldable pub body_within : (limit : ℕ) → List ℕ → Checked
-body_within limit s = refuse Refused (ltb limit (inputs_of s + gates_of s)) 23 5 (body s)
+body_within limit s = refuse (ltb limit (inputs_of s + gates_of s)) Signals (body s)
 
 unfoldable pub checked_within : (limit version : ℕ) → List ℕ → Checked
 checked_within limit version s = opening version s (counts s (body_within limit s))

@@ -1,8 +1,10 @@
 -- Document 01: what is asked of a netlist's bytes, from "The card netlist", and the conditions of "Turned back, by operation" one after
 -- the other. `checked` accepts exactly the proper bytes and refuses the others by the first condition met (proofs/Proper.antt).
-use Rattle.std.specs.Prelude.{ℕ, zero, suc, ◌+◌, ◌≤◌, ◌<◌, ◌≡◌, Bool, true, cond, not, List, [], ◌∷◌, ◌++◌, eqb, leb, ltb, length}
+use Rattle.std.specs.Prelude.{ℕ, zero, suc, ◌+◌, ◌≤◌, ◌<◌, ◌≡◌, Bool, true, cond, not, List, [], ◌∷◌, ◌++◌, eqb, leb, ltb, length, Result, Err}
 use Rattle.words.specs.Words.{word_at, marked, outside}
 use Rattle.records.specs.Records.{kind_at, count_at, pin_at, past_record, no_kind, least_pins, most_pins}
+use Rattle.refusals.specs.declared.Refusal.{Refusal}
+use Rattle.refusals.specs.declared.Refusal.TheVariants.{NetlistShort, NetlistMark, NetlistVersion, Count, CutOff, Kind, PinCount, Pin, Entry, BytesLeft}
 use Rattle.netlist.specs.Netlist.{inputs_of, gates_of, outputs_of, place_of, entries_at, output_at, outputs_end}
 
 -- "A record is a kind byte, a pin-count byte and a 16-bit signal number for each pin. Kinds: 1 NOT, 2 BUFFER, 3 AND, 4 OR, 5 NAND, 6 NOR.
@@ -32,38 +34,38 @@ pub record Proper (s : List ℕ) : Type 0 where
 
 -- "A refusal is a number and a byte place."
 pub data Condition : Type 0 where
-  when : (met : Bool) (number place : ℕ) → Condition
+  when : (met : Bool) (refusal : Refusal) → Condition
 
 -- "In the order below, the first condition met is the refusal; where none is met there is none."
-unfoldable pub first_met : {A : Type 0} → (refused : (number place : ℕ) → A) → List Condition → A → A
-first_met refused [] answer = answer
-first_met refused (when met number place ∷ rest) answer = cond met (refused number place) (first_met refused rest answer)
+unfoldable pub first_met : {A : Type 0} → List Condition → Result A Refusal → Result A Refusal
+first_met [] answer = answer
+first_met (when met refusal ∷ rest) answer = cond met (Err refusal) (first_met rest answer)
 
 -- each of the n words from `at` on that is not below the bound
-unfoldable pub word_conditions : (n : ℕ) → List ℕ → (at bound number : ℕ) → List Condition
-word_conditions zero s at bound number = []
-word_conditions (suc n) s at bound number = when (leb bound (word_at s at)) number at ∷ word_conditions n s (at + 2) bound number
+unfoldable pub word_conditions : (n : ℕ) → List ℕ → (at bound : ℕ) → (refusal : (at : ℕ) → Refusal) → List Condition
+word_conditions zero s at bound refusal = []
+word_conditions (suc n) s at bound refusal = when (leb bound (word_at s at)) (refusal at) ∷ word_conditions n s (at + 2) bound refusal
 
 -- "Netlist: under 11 bytes 1 (place: the length); mark 2 (0); version 3 (3); I, G, O out of range 4 (5, 7, 9)."
 unfoldable pub head_conditions : List ℕ → List Condition
 head_conditions s =
-    when (ltb (length s) 11) 1 (length s)
-    ∷ when (not (marked s 0x4C 0x43 0x4E)) 2 0
-    ∷ when (not (eqb (word_at s 3) 1)) 3 3
-    ∷ when (outside 1 256 (inputs_of s)) 4 5
-    ∷ when (outside 0 2048 (gates_of s)) 4 7
-    ∷ when (outside 1 64 (outputs_of s)) 4 9
+    when (ltb (length s) 11) (NetlistShort (length s))
+    ∷ when (not (marked s 0x4C 0x43 0x4E)) NetlistMark
+    ∷ when (not (eqb (word_at s 3) 1)) NetlistVersion
+    ∷ when (outside 1 256 (inputs_of s)) (Count 5)
+    ∷ when (outside 0 2048 (gates_of s)) (Count 7)
+    ∷ when (outside 1 64 (outputs_of s)) (Count 9)
     ∷ []
 
 -- "Per record: under two bytes left 5 (record start); kind 6 (its byte); pin count 7 (its byte); pins cut off 5 (record start); pin not
 -- below its gate 8 (that pin)"
 unfoldable pub record_conditions : List ℕ → (signal at : ℕ) → List Condition
 record_conditions s signal at =
-    when (ltb (length s) (at + 2)) 5 at
-    ∷ when (no_kind (kind_at s at)) 6 at
-    ∷ when (outside (least_pins (kind_at s at)) (most_pins (kind_at s at)) (count_at s at)) 7 (at + 1)
-    ∷ when (ltb (length s) (past_record s at)) 5 at
-    ∷ word_conditions (count_at s at) s (at + 2) signal 8
+    when (ltb (length s) (at + 2)) (CutOff at)
+    ∷ when (no_kind (kind_at s at)) (Kind at)
+    ∷ when (outside (least_pins (kind_at s at)) (most_pins (kind_at s at)) (count_at s at)) (PinCount (at + 1))
+    ∷ when (ltb (length s) (past_record s at)) (CutOff at)
+    ∷ word_conditions (count_at s at) s (at + 2) signal Pin
 
 -- those of the n records from gate g's on
 unfoldable pub records_conditions : (n g : ℕ) → List ℕ → List Condition
@@ -73,9 +75,9 @@ records_conditions (suc n) g s = record_conditions s (inputs_of s + g) (place_of
 -- "Then output entries cut off 5 (their start); entry not below I + G 9 (it); bytes left 10 (the first)."
 unfoldable pub output_conditions : List ℕ → List Condition
 output_conditions s =
-    when (ltb (length s) (outputs_end s)) 5 (entries_at s)
-    ∷ (word_conditions (outputs_of s) s (entries_at s) (inputs_of s + gates_of s) 9
-    ++ (when (ltb (outputs_end s) (length s)) 10 (outputs_end s) ∷ []))
+    when (ltb (length s) (outputs_end s)) (CutOff (entries_at s))
+    ∷ (word_conditions (outputs_of s) s (entries_at s) (inputs_of s + gates_of s) Entry
+    ++ (when (ltb (outputs_end s) (length s)) (BytesLeft (outputs_end s)) ∷ []))
 
 unfoldable pub conditions : List ℕ → List Condition
 conditions s = head_conditions s ++ records_conditions (gates_of s) 0 s ++ output_conditions s

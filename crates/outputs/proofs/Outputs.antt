@@ -45,7 +45,7 @@ search_few src w s = go (src s)
         )
 
 -- and takes no more than eight pins of each
-module _ {table rows known : List ℕ} (r : SearchReady table rows known) where
+module _ {rows known : List ℕ} (r : SearchReady rows known) where
   few_pins : (s : ℕ) → length (pins_of (source_from rows known s)) ≤ 8
   unfolding row_pins
   few_pins s = go (dec_lt (get_or known s 0) 8)

@@ -6,7 +6,6 @@ use mathlib.Core.Path.{◌≡◌, ◌∙◌, ap, ap₂}
 use mathlib.Core.Bool.{Bool}
 use mathlib.Core.List.{List}
 use lib.ListN.{length, get_or-eq_default}
-use Rattle.kung.specs.Lookup.{search_table}
 use Rattle.rows.specs.Rows.{output_in}
 use Rattle.rows.specs.Lent.{GateRow}
 use Rattle.netlist.specs.Netlist.{inputs_of, output_at}
@@ -43,7 +42,7 @@ module _ {repeated : Bool} (n l rows : List ℕ) (task : Task) (a : Accepts repe
   rows_long = omega (arith, a.decoded.long, card.inputs_are, card.gates_are, card.outputs_are)
 
   -- a byte for each signal, and each input's is a class
-  module _ {table : List ℕ} (table_is : table ≡ search_table) (known : List ℕ) (all : length known ≡ signals) (afresh : Afresh known)
+  module _ (known : List ℕ) (all : length known ≡ signals) (afresh : Afresh known)
       (given : InputsGiven inputs known) where
     gates_only : GatesOnly rows known
     gates_only s h = go (dec_lt s inputs) (dec_lt s signals)
@@ -55,16 +54,15 @@ module _ {repeated : Bool} (n l rows : List ℕ) (task : Task) (a : Accepts repe
             rw e at (a.decoded.gate (s - inputs_of n) (omega (arith, card.inputs_are, card.gates_are)))
         go (no above) (no beyond) = absurd (omega (arith, get_or-eq_default known 0 {n = s} (omega (arith, all))))
 
-    ready : SearchReady table rows known
+    ready : SearchReady rows known
     ready =
         record {
-          table_is = table_is;
           gates_only = gates_only;
           few_signals = omega (arith, all, card.inputs_high, card.gates_high);
           afresh = afresh;
         }
 
-    pub outputs_ready : (room : ℕ) → outputs ≤ room → OutputsReady table rows known task.shape room
+    pub outputs_ready : (room : ℕ) → outputs ≤ room → OutputsReady rows known task.shape room
     outputs_ready room enough =
         record {
           ready = ready;

@@ -6,8 +6,8 @@ use Rattle.changes.specs.Lent.{signals_of}
 use Rattle.visit.specs.Lent.{SearchReady, InputsGiven}
 
 -- all outputs can be searched, and there is room for their bytes
-pub record OutputsReady (table rows known : List ℕ) (shape : Shape) (room : ℕ) : Type 0 where
-  pub ready : SearchReady table rows known
+pub record OutputsReady (rows known : List ℕ) (shape : Shape) (room : ℕ) : Type 0 where
+  pub ready : SearchReady rows known
   pub given : InputsGiven shape.inputs known
   pub all_known : length known ≡ signals_of shape
   pub outputs_high : shape.outputs ≤ 64

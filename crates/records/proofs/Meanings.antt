@@ -1,17 +1,22 @@
 -- What a kind byte means, by its ranges, and what the limits tell of it. Assumes nothing.
 use Prim.Native.Nat.{ℕ, zero, suc, ◌+◌, ◌-◌, ◌*◌, ◌/◌, ◌%◌, ◌≤◌, ◌<◌}
 use native.Mathlib.Omega.{arith}
-use mathlib.Core.Path.{◌≡◌, refl, ◌∙◌, ap}
+use mathlib.Core.Path.{◌≡◌, refl, sym, ◌∙◌, ap}
 use mathlib.Core.Bool.{Bool, true, false, cond, ◌||◌}
-use mathlib.Core.List.{◌∷◌}
-use borrow.Author.Tests.{lt-ltb}
-use lib.Dec.{eqb, leb}
-use lib.ListN.{get_or, get_or-eq_default}
+use mathlib.Core.List.{List, ◌∷◌}
+use borrow.Author.Tests.{lt-ltb, ltb-true, ltb-false}
+use lib.Dec.{eqb, leb, ltb}
+use lib.ListN.{length, get_or, get_or-eq_default}
+use denote.Bor.{Bor}
+use Rattle.std.specs.Prelude.{Option, Some, None}
+use Rattle.std.specs.List.{slice_get}
+use Rattle.std.specs.Option.{is_some, IfSome, option_copied}
+use Rattle.std.proofs.lemmas.Option.{slice_get-get_or, get_or_from_slice_get, slice_get_read, slice_get_within, slice_get_past}
 use Rattle.kung.specs.Rule.{kind_of, kinds, BUFFER}
-use Rattle.kung.specs.Operation.{Op, and, or, op_of, inverts, op_code}
+use Rattle.kung.specs.Operation.{op_of, inverts, op_code}
 use Rattle.kung.specs.Sets.{bit}
 use Rattle.kung.specs.Tables.{tab}
-use Rattle.kung.proofs.Listed.{get_d_tab, agree}
+use Rattle.kung.proofs.Listed.{length_tab, get_d_tab, agree}
 use Rattle.words.specs.Words.{outside}
 use Rattle.words.proofs.Laws.{outside_below, outside_above}
 use Rattle.rows.specs.Rows.{word_for}
@@ -64,10 +69,6 @@ pub kind_unfit : (kind count : ℕ) → no_kind kind ≡ true → unfit kind cou
 unfolding unfit
 kind_unfit kind count e = rw e
 
-pub no_kind_lem : (kind : ℕ) → 7 < kind → no_kind kind ≡ true
-unfolding no_kind
-no_kind_lem kind h = outside_above 1 6 kind (omega arith) ∙ lt-ltb 6 kind (omega arith)
-
 -- a kind takes one to eight pins
 pub least_some : (kind : ℕ) → 1 ≤ least_pins kind
 unfolding least_pins
@@ -116,57 +117,59 @@ most_some kind = go (no_kind kind)
     go true h = absurd (h refl)
     go false h = refl
 
--- the test of a count against the limits of a kind
-pub limits_kind : (kind count : ℕ) → no_kind kind ≡ false → outside (meaning_of kind).least (meaning_of kind).most count ≡ outside (least_pins kind) (most_pins kind) count
-unfolding meaning_of
-limits_kind kind count e = rw e
+-- what is read of a list, if there is so much of it
+pub read_slot : (xs : List ℕ) (i : ℕ) (r : Option (Bor ℕ)) → is_some r ≡ ltb i (length xs) → IfSome r (λ x. x.now ≡ get_or xs i x.now)
+    → option_copied r ≡ slice_get xs i
+read_slot xs i None e h = sym (slice_get_past xs i (ltb-false i (length xs) (sym e)))
+read_slot xs i (Some x) e h = sym (slice_get_read xs (length xs) i x.now refl (ltb-true i (length xs) (sym e)) h)
 
--- a byte's limits are small
-pub meaning_low : (kind : ℕ) → ((meaning_of kind).least ≤ 2) × ((meaning_of kind).most ≤ 8) × ((meaning_of kind).operation ≤ 1)
-unfolding meaning_of least_pins most_pins
-meaning_low kind = go (no_kind kind) (leb kind 2) (op_of (kind_of kind))
-  where
-    go : (b d : Bool) (o : Op) → (cond b 1 (cond d 1 2) ≤ 2) × (cond b 0 (cond d 1 8) ≤ 8) × (op_code o ≤ 1)
-    go true d and = (omega arith, omega arith, omega arith)
-    go true d or = (omega arith, omega arith, omega arith)
-    go false true and = (omega arith, omega arith, omega arith)
-    go false true or = (omega arith, omega arith, omega arith)
-    go false false and = (omega arith, omega arith, omega arith)
-    go false false or = (omega arith, omega arith, omega arith)
-
--- the words of the bytes 0 to 7, part by part
-word_at : (kind : ℕ) → kind ≤ 7 → get_or meaning_table kind 0 ≡ meaning_word (meaning_of kind)
+table_length : length meaning_table ≡ 8
 unfolding meaning_table
-word_at kind h = get_d_tab _ 8 kind (omega arith)
+table_length = length_tab _ 0 8
 
-module _ (kind : ℕ) (h : kind ≤ 7) where
-  pub word_least : get_or meaning_table kind 0 / 16 % 16 ≡ (meaning_of kind).least
+-- a byte above 7 has no word
+pub word_past : (kind : ℕ) → slice_get meaning_table kind ≡ None → no_kind kind ≡ true
+unfolding no_kind
+word_past kind e = go (ltb kind 8) refl
+  where
+    go : (b : Bool) → ltb kind 8 ≡ b → outside 1 6 kind ≡ true
+    go true d = cc (slice_get-get_or meaning_table kind 0 (omega (arith, table_length, ltb-true kind 8 d)))
+    go false d = let h = ltb-false kind 8 d in outside_above 1 6 kind (omega arith) ∙ lt-ltb 6 kind (omega arith)
+
+-- what the word of a byte up to 7 tells of it
+module _ (kind : ℕ) {word : ℕ} (e : slice_get meaning_table kind ≡ Some word) where
+  h : kind < 8
+  h = omega (arith, table_length, slice_get_within meaning_table kind word e)
+
+  word_is : word ≡ meaning_word (meaning_of kind)
+  unfolding meaning_table
+  word_is = sym (get_or_from_slice_get meaning_table kind word 0 e) ∙ get_d_tab _ 8 kind h
+
+  word_least : word / 16 % 16 ≡ (meaning_of kind).least
   unfolding tab meaning_word meaning_of no_kind least_pins most_pins outside kind_of
-  word_least = rw (word_at kind h) (agree (λ k. meaning_word (meaning_of k) / 16 % 16) (λ k. (meaning_of k).least) 8 refl kind (omega arith))
+  word_least = rw word_is (agree (λ k. meaning_word (meaning_of k) / 16 % 16) (λ k. (meaning_of k).least) 8 refl kind h)
 
-  pub word_most : get_or meaning_table kind 0 / 256 ≡ (meaning_of kind).most
+  word_most : word / 256 ≡ (meaning_of kind).most
   unfolding tab meaning_word meaning_of no_kind least_pins most_pins outside kind_of
-  word_most = rw (word_at kind h) (agree (λ k. meaning_word (meaning_of k) / 256) (λ k. (meaning_of k).most) 8 refl kind (omega arith))
+  word_most = rw word_is (agree (λ k. meaning_word (meaning_of k) / 256) (λ k. (meaning_of k).most) 8 refl kind h)
 
-  pub word_gate : (count : ℕ) → get_or meaning_table kind 0 % 4 + 4 * count ≡ word_for (kind_of kind) count
-  unfolding tab meaning_word meaning_of no_kind least_pins most_pins outside kind_of word_for
-  word_gate count =
-      rw (word_at kind h)
-      (ap (λ (n : ℕ). n + 4 * count) (agree (λ k. meaning_word (meaning_of k) % 4) (λ k. op_code (op_of (kind_of k)) + 2 * bit (inverts (kind_of k))) 8 refl kind (omega arith)))
-
-  -- what the word tells of the byte
-  pub word_none : get_or meaning_table kind 0 < 256 → no_kind kind ≡ true
+  pub word_none : word < 256 → no_kind kind ≡ true
   word_none l = most_none kind (omega (arith, word_most))
 
-  pub word_some : 256 ≤ get_or meaning_table kind 0 → no_kind kind ≡ false
-  word_some l = most_some kind (λ e. omega (arith, word_most))
-
-  pub word_limits : (count : ℕ) → no_kind kind ≡ false
-      → outside (get_or meaning_table kind 0 / 16 % 16) (get_or meaning_table kind 0 / 256) count ≡ outside (least_pins kind) (most_pins kind) count
-  word_limits count e = rw (word_least, word_most) (limits_kind kind count e)
-
-  pub word_unfit : (count : ℕ) → outside (get_or meaning_table kind 0 / 16 % 16) (get_or meaning_table kind 0 / 256) count ≡ unfit kind count
+  pub word_unfit : (count : ℕ) → outside (word / 16 % 16) (word / 256) count ≡ unfit kind count
   word_unfit count = rw (word_least, word_most) (meaning_unfit kind count)
 
-  pub word_low : get_or meaning_table kind 0 / 256 ≤ 8
-  word_low = rw word_most (meaning_low kind).1
+  pub word_some : (count : ℕ) → 256 ≤ word → (no_kind kind ≡ false) × (outside (word / 16 % 16) (word / 256) count ≡ outside (least_pins kind) (most_pins kind) count)
+  unfolding unfit
+  word_some count l =
+      let known = most_some kind (λ e. omega (arith, word_most)) in
+      (known, word_unfit count ∙ rw known)
+
+  pub word_gate : (count : ℕ) → word % 4 + 4 * count ≡ word_for (kind_of kind) count
+  unfolding tab meaning_word meaning_of no_kind least_pins most_pins outside kind_of word_for
+  word_gate count =
+      rw word_is
+      (ap (λ (n : ℕ). n + 4 * count) (agree (λ k. meaning_word (meaning_of k) % 4) (λ k. op_code (op_of (kind_of k)) + 2 * bit (inverts (kind_of k))) 8 refl kind h))
+
+-- what `meaning_of` asks
+pub ruleset meant = (meaning_one, meaning_plain, meaning_inverted, meaning_zero, meaning_above)

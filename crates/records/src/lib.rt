@@ -1,16 +1,17 @@
 // A netlist's records, one by one: what a kind byte means, and what is read of a record up to its pins.
 #![tactic(auto)]
 
-ghost use Rattle.std.specs.Prelude.{◌≡◌, ◌+◌, ◌≤◌, length};
+ghost use Rattle.std.specs.Prelude.{◌≡◌, ◌+◌, ◌≤◌, length, slice_get};
 ghost use Rattle.records.specs.Records.{unfit};
-ghost use Rattle.records.specs.Meaning.{meaning_of, meaning_word, meaning_table};
+ghost use Rattle.records.specs.Meaning.{meaning_of, meaning_table};
 ghost use Rattle.records.specs.Reading.{head_at, fit_at};
 
+use refusals::Refusal;
 use words::is_outside;
 
 // What a kind byte means: how many pins it takes, its operation (0 AND, 1 OR) and whether it inverts. A byte that is no kind has limits
-// that no pin count meets.
-#[derive(Drop)]
+// that no pin count meets. The operation is a number and no enum: as a number it goes into the gate's word and into the tables.
+#[derive(Clone, Copy)]
 pub struct Meaning {
     pub least: usize,
     pub most: usize,
@@ -18,6 +19,7 @@ pub struct Meaning {
     pub inverts: bool,
 }
 
+#[tactic(auto, using(crate::proofs::Meanings::meant))]
 pub fn meaning_of(kind: u8) -> Meaning
     ensures { result ≡ meaning_of kind }
 {
@@ -50,6 +52,7 @@ pub fn meaning_of(kind: u8) -> Meaning
 }
 
 // Whether a byte is no kind, or a kind that does not take so many pins.
+#[tactic(auto, using(crate::proofs::Meanings::meaning_unfit))]
 pub fn is_unfit(kind: u8, count: usize) -> bool
     ensures { result ≡ unfit kind count }
 {
@@ -57,87 +60,91 @@ pub fn is_unfit(kind: u8, count: usize) -> bool
     is_outside(meaning.least, meaning.most, count)
 }
 
-// A meaning in one word.
-fn meaning_word(meaning: Meaning) -> u16
-    requires { (meaning.least ≤ 2) × (meaning.most ≤ 8) × (meaning.operation ≤ 1) }
-    ensures { result ≡ meaning_word meaning }
+// A meaning in one word: the operation, 2 more where it inverts, 16 times the least and 256 times the most pins.
+const OR: u16 = 1;
+
+const INVERTS: u16 = 2;
+
+const ONE_PIN: u16 = 16 + 256;
+
+const TWO_TO_EIGHT: u16 = 2 * 16 + 8 * 256;
+
+const NO_KIND: u16 = 16;
+
+// The words of the bytes 0 to 7: in the check's loop no jump depends on a kind.
+static MEANINGS: [u16; 8] = [
+    NO_KIND,
+    INVERTS + ONE_PIN,
+    ONE_PIN,
+    TWO_TO_EIGHT,
+    OR + TWO_TO_EIGHT,
+    INVERTS + TWO_TO_EIGHT,
+    OR + INVERTS + TWO_TO_EIGHT,
+    NO_KIND,
+];
+
+// What a kind byte means in one word.
+fn meaning_word(kind: u8) -> Option<u16>
+    ensures { result ≡ slice_get meaning_table kind }
 {
-    meaning.operation as u16
-        + 2 * (meaning.inverts as u16)
-        + 16 * (meaning.least as u16)
-        + 256 * (meaning.most as u16)
+    MEANINGS.get(kind as usize).copied()
 }
 
-// The words of the bytes 0 to 7, made once for a check: in its loop no jump depends on a kind.
-pub fn meaning_table() -> [u16; 8]
-    ensures { result ≡ meaning_table }
-{
-    let mut table = [0u16; 8];
-    for kind in 0..8 {
-        table[kind] = meaning_word(meaning_of(kind as u8));
-    }
-    table
+// A record up to its pins: how many there are, and its gate's word.
+#[derive(Clone, Copy)]
+pub struct Head {
+    pub count: usize,
+    pub word: u16,
 }
 
-// A record up to its pins: how many there are and its gate's word, or the number and place of a refusal.
-#[derive(Drop)]
-pub enum Head {
-    Pins(usize, u16),
-    Refused(u8, usize),
-}
-
-pub fn head_at(s: &[u8], meanings: &[u16; 8], at: usize) -> Head
-    requires { (meanings.now ≡ meaning_table) × (at ≤ length s.now + 11) }
+#[tactic(auto, using(crate::proofs::Heads::told), unfolding(crate::specs::Reading::head_at, refusals::specs::Refusal::refuse))]
+pub fn head_at(s: &[u8], at: usize) -> Result<Head, Refusal>
+    requires { at ≤ length s.now + 11 }
     ensures { result ≡ head_at s.now at }
 {
     if s.len() < at + 2 {
-        return Head::Refused(5, at);
+        return Err(Refusal::CutOff(at));
     }
     let second = at + 1;
     let count = s[second] as usize;
-    let kind = s[at] as usize;
-    if 7 < kind {
-        return Head::Refused(6, at);
-    }
-    let meaning = meanings[kind];
+    let Some(meaning) = meaning_word(s[at]) else {
+        return Err(Refusal::Kind(at));
+    };
     if meaning < 256 {
-        return Head::Refused(6, at);
+        return Err(Refusal::Kind(at));
     }
     if is_outside(
         (meaning / 16 % 16) as usize,
         (meaning / 256) as usize,
         count,
     ) {
-        return Head::Refused(7, second);
+        return Err(Refusal::PinCount(second));
     }
     if s.len() < at + 2 + 2 * count {
-        return Head::Refused(5, at);
+        return Err(Refusal::CutOff(at));
     }
-    Head::Pins(count, meaning % 4 + 4 * (count as u16))
+    Ok(Head {
+        count,
+        word: meaning % 4 + 4 * (count as u16),
+    })
 }
 
-// A record behind whose head eight words have room, where its head is not refused: the number of its pins and its gate's word.
-#[derive(Drop)]
-pub enum Fit {
-    Pins(usize, u16),
-    Other,
-}
-
-pub fn fit_at(s: &[u8], meanings: &[u16; 8], at: usize) -> Fit
-    requires { (meanings.now ≡ meaning_table) × (at ≤ length s.now + 11) }
+// A record behind whose head eight words have room, where its head is not refused.
+#[tactic(auto, using(crate::proofs::Heads::fits), unfolding(crate::specs::Reading::fit_at))]
+pub fn fit_at(s: &[u8], at: usize) -> Option<Head>
+    requires { at ≤ length s.now + 11 }
     ensures { result ≡ fit_at s.now at }
 {
     if s.len() < at + 18 {
-        return Fit::Other;
+        return None;
     }
     let count = s[at + 1] as usize;
-    let kind = s[at] as usize;
-    if 7 < kind {
-        return Fit::Other;
-    }
-    let meaning = meanings[kind] as usize;
+    let meaning = meaning_word(s[at])? as usize;
     if is_outside(meaning / 16 % 16, meaning / 256, count) {
-        return Fit::Other;
+        return None;
     }
-    Fit::Pins(count, (meaning % 4 + 4 * count) as u16)
+    Some(Head {
+        count,
+        word: (meaning % 4 + 4 * count) as u16,
+    })
 }

@@ -1,76 +1,107 @@
-// The results of checks and walks as the static library's functions give them: a number and five words.
+// What the static library's functions answer: a refusal's number, or 0, and five words.
 #![tactic(auto)]
 
-ghost use Rattle.std.specs.Prelude.{◌≡◌, [], ◌∷◌};
-ghost use Rattle.replies.specs.Replies.{netlist_answer, list_answer, start_answer, step_answer};
+ghost use Rattle.std.specs.Prelude.{◌≡◌, ℕ, List};
+ghost use Rattle.replies.specs.Replies.{Answered, answer_of, shape_words, task_words, start_words, step_words};
+ghost use Rattle.replies.specs.Replies.{unit_words, found_words, forwarded_words, judged_words};
 
-use changes::Listed;
-use netlist::Checked;
+use changes::Task;
+use forward::Forwarded;
+use lists::Judged;
+use netlist::Shape;
+use refusals::Refusal;
+use visit::{Found, Verdict};
 use walk::{Start, Stepped};
 
-// Writes the five words of an answer.
-pub fn put(answer: &mut [u64; 5], a: usize, b: usize, c: usize, d: usize, e: usize)
-    ensures { answer.new ≡ a ∷ b ∷ c ∷ d ∷ e ∷ [] }
-{
-    *answer = [a as u64, b as u64, c as u64, d as u64, e as u64];
+// What an operation gives, as five words.
+pub trait Words {
+    ghost words_of: { Self → List ℕ };
+
+    fn words(self) -> [usize; 5]
+        ensures { result ≡ words_of self };
 }
 
-// A refusal: its number, and its place in the answer.
-pub fn refuse(answer: &mut [u64; 5], number: u8, place: usize) -> u32
-    ensures { (result ≡ number) × (answer.new ≡ place ∷ 0 ∷ 0 ∷ 0 ∷ 0 ∷ []) }
-{
-    put(answer, place, 0, 0, 0, 0);
-    number as u32
+impl Words for Shape {
+    ghost words_of = { shape_words };
+
+    fn words(self) -> [usize; 5] {
+        [
+            self.inputs,
+            self.gates,
+            self.outputs,
+            self.pins,
+            self.entries,
+        ]
+    }
 }
 
-pub fn put_checked(answer: &mut [u64; 5], checked: Checked) -> u32
-    ensures { (result ≡ (netlist_answer checked).number) × (answer.new ≡ (netlist_answer checked).words) }
-{
-    match checked {
-        Checked::Refused(number, place) => refuse(answer, number, place),
-        Checked::Accepted(shape) => {
-            put(
-                answer,
-                shape.inputs,
-                shape.gates,
-                shape.outputs,
-                shape.pins,
-                shape.entries,
-            );
-            0
+impl Words for Task {
+    ghost words_of = { task_words };
+
+    fn words(self) -> [usize; 5] {
+        [self.changes, self.layout.width, self.layout.row, 0, 0]
+    }
+}
+
+impl Words for Start {
+    ghost words_of = { start_words };
+
+    fn words(self) -> [usize; 5] {
+        [self.number, self.place, self.count, 0, 0]
+    }
+}
+
+impl Words for Stepped {
+    ghost words_of = { step_words };
+
+    fn words(self) -> [usize; 5] {
+        [self.length, self.number, self.place, 0, 0]
+    }
+}
+
+impl Words for () {
+    ghost words_of = { unit_words };
+
+    fn words(self) -> [usize; 5] {
+        [0; 5]
+    }
+}
+
+impl Words for Found {
+    ghost words_of = { found_words };
+
+    fn words(self) -> [usize; 5] {
+        match self.verdict {
+            Verdict::Clean { class } => [0, usize::from(class), self.gates, self.pins, 0],
+            Verdict::Hazardous => [1, 0, self.gates, self.pins, 0],
         }
     }
 }
 
-pub fn put_listed(answer: &mut [u64; 5], listed: Listed) -> u32
-    ensures { (result ≡ (list_answer listed).number) × (answer.new ≡ (list_answer listed).words) }
-{
-    match listed {
-        Listed::Refused(number, place) => refuse(answer, number, place),
-        Listed::Accepted(task) => {
-            let layout = task.layout;
-            put(answer, task.changes, layout.width, layout.row, 0, 0);
-            0
-        }
+impl Words for Forwarded {
+    ghost words_of = { forwarded_words };
+
+    fn words(self) -> [usize; 5] {
+        [self.touched, self.visited, 0, 0, 0]
     }
 }
 
-pub fn put_start(answer: &mut [u64; 5], start: Start) -> u32
-    ensures { (result ≡ (start_answer start).number) × (answer.new ≡ (start_answer start).words) }
-{
-    let checked = start.checked;
-    match checked {
-        Checked::Refused(number, place) => refuse(answer, number, place),
-        Checked::Accepted(_) => {
-            put(answer, start.number, start.place, start.count, 0, 0);
-            0
-        }
+impl Words for Judged {
+    ghost words_of = { judged_words };
+
+    fn words(self) -> [usize; 5] {
+        [self.changes, self.width, self.first, self.second, 0]
     }
 }
 
-pub fn put_stepped(answer: &mut [u64; 5], stepped: Stepped) -> u32
-    ensures { (result ≡ (step_answer stepped).number) × (answer.new ≡ (step_answer stepped).words) }
+// Writes an outcome's words, or a refusal's place, into the answer, and returns the refusal's number, or 0.
+pub fn reply<T: Words>(answer: &mut [u64; 5], outcome: Result<T, Refusal>) -> u32
+    ensures { Answered (answer_of T.words_of outcome) result answer.new }
 {
-    put(answer, stepped.length, stepped.number, stepped.place, 0, 0);
-    0
+    let (number, words) = match outcome {
+        Ok(value) => (0, value.words()),
+        Err(refusal) => (refusal.number(), [refusal.place(), 0, 0, 0, 0]),
+    };
+    *answer = words.map(|word| word as u64);
+    u32::from(number)
 }

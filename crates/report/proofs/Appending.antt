@@ -1,85 +1,73 @@
 -- Texts appended one after the other. Assumes nothing.
 use mathlib.Core.Path.{◌≡◌, refl, sym, ap, ap₂, ◌∙◌}
 use mathlib.Core.List.{List, [], ◌∷◌, ◌++◌, append_assoc, append-nil}
-use Prim.Native.Nat.{ℕ, ◌+◌, ◌≤◌, ◌<◌}
+use Prim.Native.Nat.{ℕ, ◌+◌, ◌≤◌}
 use native.Mathlib.Nat.{add-zero, add_assoc}
-use native.Mathlib.Numerals.{add-one}
 use native.Mathlib.Omega.{arith}
-use lib.ListN.{length, take, drop, set, length-append, length-drop, take-append-drop}
-use lib.Seq.{length-take-le, drop-append-add, take_at, drop-drop, set_split, append_snoc}
+use lib.ListN.{length, take, drop, length-append, length-drop, take-append-drop}
+use lib.Seq.{length-take-le, drop-append-add, take_at, drop-drop}
+use Rattle.report.specs.declared.Text.{Text}
 use Rattle.report.specs.Text.{line}
-use Rattle.report.specs.Appended.{Appended}
+use Rattle.report.specs.Appended.{Fits, Appended}
 
-pub nothing : (a : List ℕ) (at : ℕ) → at ≤ length a → Appended a a at at []
-nothing a at h = record {
+pub nothing : (a : Text) → a.written ≤ length a.bytes.now → Appended a a []
+nothing a h = record {
+  same_buffer = refl;
   room = omega arith;
-  after = omega arith;
+  written = omega arith;
   bytes = simp (add-zero, append-nil, take-append-drop);
 }
 
-pub one : (a : List ℕ) (at e : ℕ) → at < length a → Appended a (set a at e) at (at + 1) (e ∷ [])
-one a at e h = record {
-  room = omega arith;
-  after = refl;
-  bytes = rw (add-one, append_snoc) (set_split a at e h);
-}
-
 -- an append keeps the buffer's length
-pub kept : {a b t : List ℕ} {at r : ℕ} → Appended a b at r t → length b ≡ length a
-kept {a} {b} {t} {at} p =
-    ap length p.bytes ∙ simp (length-append, length-drop) (omega (arith, length-take-le at a (omega (arith, p.room)), p.room))
+pub kept : {a b : Text} {t : List ℕ} → Appended a b t → length b.bytes.now ≡ length a.bytes.now
+kept {a} {b} {t} p =
+    ap length p.bytes
+    ∙ simp (length-append, length-drop) (omega (arith, length-take-le a.written a.bytes.now (omega (arith, p.room)), p.room))
 
 infixr 20 ◌then◌
-pub ◌then◌ : {a b c t u : List ℕ} {at r s : ℕ} → Appended a b at r t → Appended b c r s u → Appended a c at s (t ++ u)
-◌then◌ {a} {b} {c} {t} {u} {at} {r} {s} p q = record {
-  room = simp length-append (omega (arith, p.room, p.after, q.room, kept p));
-  after = simp length-append (omega (arith, p.after, q.after));
+pub ◌then◌ : {a b c : Text} {t u : List ℕ} → Appended a b t → Appended b c u → Appended a c (t ++ u)
+◌then◌ {a} {b} {c} {t} {u} p q = record {
+  same_buffer = q.same_buffer ∙ p.same_buffer;
+  room = simp length-append (omega (arith, p.room, p.written, q.room, kept p));
+  written = simp length-append (omega (arith, p.written, q.written));
   bytes = q.bytes ∙ ap₂ (λ x y. (x ++ u) ++ y) front back ∙ simp (append_assoc, length-append, add_assoc);
 }
   where
-    head : length (take at a ++ t) ≡ r
-    head = simp length-append (omega (arith, length-take-le at a (omega (arith, p.room)), p.after))
+    head : length (take a.written a.bytes.now ++ t) ≡ b.written
+    head = simp length-append (omega (arith, length-take-le a.written a.bytes.now (omega (arith, p.room)), p.written))
 
-    front : take r b ≡ take at a ++ t
-    front = ap (take r) p.bytes ∙ take_at (take at a ++ t) _ r head
+    front : take b.written b.bytes.now ≡ take a.written a.bytes.now ++ t
+    front = ap (take b.written) p.bytes ∙ take_at (take a.written a.bytes.now ++ t) _ b.written head
 
-    back : drop (r + length u) b ≡ drop (at + length t + length u) a
-    back = ap₂ (λ n l. drop (n + length u) l) (sym head) p.bytes ∙ drop-append-add (take at a ++ t) _ (length u) ∙ drop-drop (length u) (at + length t) a
+    back : drop (b.written + length u) b.bytes.now ≡ drop (a.written + length t + length u) a.bytes.now
+    back =
+        ap₂ (λ n l. drop (n + length u) l) (sym head) p.bytes ∙ drop-append-add (take a.written a.bytes.now ++ t) _ (length u)
+        ∙ drop-drop (length u) (a.written + length t) a.bytes.now
 
--- a line's length, word by word
-abbrev pub total : List ℕ → List (List ℕ) → ℕ
-total word [] = length (word ++ (10 ∷ []))
-total word (next ∷ rest) = length (word ++ (32 ∷ [])) + total next rest
-
-pub line_length : (word : List ℕ) (rest : List (List ℕ)) → length (line word rest) ≡ total word rest
+-- a line is its first word, a blank and the line of the others
+line_words : (word next : List ℕ) (rest : List (List ℕ)) → line word (next ∷ rest) ≡ (word ++ (32 ∷ [])) ++ line next rest
 unfolding line
-line_length word [] = refl
-line_length word (next ∷ rest) = simp length-append (omega (arith, line_length next rest))
+line_words word next rest = simp append_assoc
 
 -- what is left of a line fits
-pub record Fits (a : List ℕ) (at : ℕ) (word : List ℕ) (rest : List (List ℕ)) : Type 0 where
-  pub room : at + total word rest ≤ length a
+pub record FitsLine (a : Text) (word : List ℕ) (rest : List (List ℕ)) : Type 0 where
+  pub whole : Fits a (line word rest)
 
 -- its next word, and what is left after it
-pub fits_word : {a word next : List ℕ} {rest : List (List ℕ)} {at : ℕ} → Fits a at word (next ∷ rest) → at + length (word ++ (32 ∷ [])) ≤ length a
-fits_word f = omega (arith, f.room)
+pub next_word : {a : Text} {word next : List ℕ} {rest : List (List ℕ)} → FitsLine a word (next ∷ rest) → Fits a (word ++ (32 ∷ []))
+next_word {a} {word} {next} {rest} f =
+    record { room = omega (arith, f.whole.room, ap length (line_words word next rest), length-append (word ++ (32 ∷ [])) (line next rest)) }
 
 infixl 20 ◌past◌
-pub ◌past◌ : {a b word next : List ℕ} {rest : List (List ℕ)} {at r : ℕ} → Fits a at word (next ∷ rest) → Appended a b at r (word ++ (32 ∷ [])) → Fits b r next rest
-◌past◌ f p = record { room = omega (arith, f.room, p.after, kept p) }
+pub ◌past◌ : {a b : Text} {word next : List ℕ} {rest : List (List ℕ)} → FitsLine a word (next ∷ rest) → Appended a b (word ++ (32 ∷ [])) → FitsLine b next rest
+◌past◌ {a} {b} {word} {next} {rest} f p = record {
+  whole = record {
+    room =
+        omega
+        (arith, f.whole.room, p.written, kept p, ap length (line_words word next rest), length-append (word ++ (32 ∷ [])) (line next rest));
+  };
+}
 
-pub fits_last : {a word : List ℕ} {at : ℕ} → Fits a at word [] → at + length (word ++ (10 ∷ [])) ≤ length a
-fits_last f = f.room
-
--- its next two words, and what is left after them
-pub fits_two : {a first second next : List ℕ} {rest : List (List ℕ)} {at : ℕ} → Fits a at first (second ∷ next ∷ rest)
-    → at + length (first ++ (32 ∷ [])) + length (second ++ (32 ∷ [])) ≤ length a
-fits_two f = omega (arith, f.room)
-
-infixl 20 ◌past-two◌
-pub ◌past-two◌ : {a b first second next : List ℕ} {rest : List (List ℕ)} {at r : ℕ} → Fits a at first (second ∷ next ∷ rest)
-    → Appended a b at r ((first ++ (32 ∷ [])) ++ (second ++ (32 ∷ []))) → Fits b r next rest
-◌past-two◌ {first = first} {second = second} f p = record { room = omega (arith, f.room, p.after, kept p, length-append (first ++ (32 ∷ [])) (second ++ (32 ∷ []))) }
-
-pub fits_last_two : {a first second : List ℕ} {at : ℕ} → Fits a at first (second ∷ []) → at + length (first ++ (32 ∷ [])) + length (second ++ (10 ∷ [])) ≤ length a
-fits_last_two f = omega (arith, f.room)
+pub last_word : {a : Text} {word : List ℕ} → FitsLine a word [] → Fits a (word ++ (10 ∷ []))
+unfolding line
+last_word f = f.whole

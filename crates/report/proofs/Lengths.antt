@@ -1,13 +1,23 @@
 -- A bound on each line's length, for callers that must show room. Assumes nothing.
+use mathlib.Core.Path.{◌≡◌, refl}
 use mathlib.Core.Bool.{Bool, true, false}
-use mathlib.Core.List.{List, [], ◌∷◌}
-use Prim.Native.Nat.{ℕ, ◌^◌, ◌≤◌, ◌<◌}
+use mathlib.Core.List.{List, [], ◌∷◌, ◌++◌}
+use Prim.Native.Nat.{ℕ, ◌+◌, ◌^◌, ◌≤◌, ◌<◌}
 use native.Mathlib.Omega.{arith}
 use lib.ListN.{length, length-append}
 use Rattle.kung.specs.Class.{Class, c0, c1, R, F, S0, S1, D+, D-, name_of}
 use Rattle.report.specs.Text.{line, counts_line, verdict_word, verdict_line, refusal_line}
-use Rattle.report.proofs.Appending.{line_length}
 use Rattle.report.proofs.Decimal.{decimal_length}
+
+-- a line's length, word by word
+abbrev total : List ℕ → List (List ℕ) → ℕ
+total word [] = length (word ++ (10 ∷ []))
+total word (next ∷ rest) = length (word ++ (32 ∷ [])) + total next rest
+
+line_length : (word : List ℕ) (rest : List (List ℕ)) → length (line word rest) ≡ total word rest
+unfolding line
+line_length word [] = refl
+line_length word (next ∷ rest) = simp length-append (omega (arith, line_length next rest))
 
 name_length : (k : Class) → length (name_of k) ≤ 2
 name_length c0 = omega arith

@@ -1,114 +1,21 @@
-// The program's lines, appended to a lent buffer. Each function returns the place after what it wrote.
+// The program's lines, appended to a text in a lent buffer.
 #![tactic(auto)]
 
-ghost use Rattle.std.specs.Prelude.{◌≡◌, [], ◌∷◌, ◌++◌, ◌+◌, ◌%◌, ◌≤◌, ◌<◌, length};
+ghost use Rattle.std.specs.Prelude.{◌≡◌, [], ◌∷◌, ◌++◌, ◌-◌, ◌≤◌, length};
 ghost use Rattle.kung.specs.Class.{of_code, name_of};
 ghost use Rattle.report.specs.Text.{decimal, counts_line, verdict_word, refusal_line};
 ghost use Rattle.report.specs.Lines.{text_of};
-ghost use Rattle.report.specs.Appended.{Appended};
 
-// The classes' names by their codes, two bytes each; the first four have one letter.
-const NAMES: [u8; 16] = *b"0 1 R F S0S1D+D-";
-
-fn put_byte(buffer: &mut [u8], at: usize, byte: u8) -> usize
-    requires { at < length buffer.old }
-    ensures { Appended buffer.old buffer.new at result (byte ∷ []) }
-{
-    buffer[at] = byte;
-    at + 1
-}
-
-fn last_digit(n: usize) -> u8
-    ensures { result ≡ 48 + n % 10 }
-{
-    b'0' + (n % 10) as u8
-}
-
-fn put_decimal(buffer: &mut [u8], at: usize, n: usize) -> usize
-    requires { at + length (decimal n) ≤ length buffer.old }
-    ensures { Appended buffer.old buffer.new at result (decimal n) }
-{
-    if n < 10 {
-        put_byte(buffer, at, last_digit(n))
-    } else {
-        let last = put_decimal(buffer, at, n / 10);
-        put_byte(buffer, last, last_digit(n))
-    }
-}
-
-// A number, and the blank or line feed after it.
-fn put_number(buffer: &mut [u8], at: usize, n: usize, end: u8) -> usize
-    requires { at + length (decimal n ++ (end ∷ [])) ≤ length buffer.old }
-    ensures { Appended buffer.old buffer.new at result (decimal n ++ (end ∷ [])) }
-{
-    let last = put_decimal(buffer, at, n);
-    put_byte(buffer, last, end)
-}
-
-// A word, and the blank or line feed after it.
-fn put_word(buffer: &mut [u8], at: usize, word: &[u8], end: u8) -> usize
-    requires { at + length (word.now ++ (end ∷ [])) ≤ length buffer.old }
-    ensures { Appended buffer.old buffer.new at result (word.now ++ (end ∷ [])) }
-{
-    let mut next = at;
-    let mut i = 0;
-    while i < word.len() {
-        next = put_byte(buffer, next, word[i]);
-        i += 1;
-    }
-    put_byte(buffer, next, end)
-}
-
-fn put_class(buffer: &mut [u8], at: usize, class: u8) -> usize
-    requires { at + length (name_of (of_code class) ++ (32 ∷ [])) ≤ length buffer.old }
-    ensures { Appended buffer.old buffer.new at result (name_of (of_code class) ++ (32 ∷ [])) }
-{
-    let names = NAMES;
-    let code = (class % 8) as usize;
-    let start = code * 2;
-    let stop = start + 1 + code / 4;
-    put_word(buffer, at, &names[start..stop], b' ')
-}
-
-fn put_judgement(buffer: &mut [u8], at: usize, clean: bool) -> usize
-    requires { at + length (verdict_word clean ++ (32 ∷ [])) ≤ length buffer.old }
-    ensures { Appended buffer.old buffer.new at result (verdict_word clean ++ (32 ∷ [])) }
-{
-    if clean {
-        put_word(buffer, at, b"clean", b' ')
-    } else {
-        put_word(buffer, at, b"hazard", b' ')
-    }
-}
-
-// A number and the word for what it counts.
-fn put_count(buffer: &mut [u8], at: usize, n: usize, word: &[u8], end: u8) -> usize
-    requires { at + length (decimal n ++ (32 ∷ [])) + length (word.now ++ (end ∷ [])) ≤ length buffer.old }
-    ensures { Appended buffer.old buffer.new at result ((decimal n ++ (32 ∷ [])) ++ (word.now ++ (end ∷ []))) }
-{
-    let at = put_number(buffer, at, n, b' ');
-    put_word(buffer, at, word, end)
-}
-
-pub fn put_counts(
-    buffer: &mut [u8],
-    at: usize,
-    inputs: usize,
-    gates: usize,
-    outputs: usize,
-    changes: usize,
-) -> usize
-    requires { at + length (counts_line inputs gates outputs changes) ≤ length buffer.old }
-    ensures { Appended buffer.old buffer.new at result (counts_line inputs gates outputs changes) }
-{
-    let at = put_count(buffer, at, inputs, b"inputs", b' ');
-    let at = put_count(buffer, at, gates, b"gates", b' ');
-    let at = put_count(buffer, at, outputs, b"outputs", b' ');
-    put_count(buffer, at, changes, b"changes", b'\n')
+// A text at the start of a lent buffer, and how long it is.
+#[derive(Drop)]
+pub struct Text<'a> {
+    bytes: &'a mut [u8],
+    written: usize,
+    ghost in_bounds: { written ≤ length bytes.now },
 }
 
 // What a line says of an output in a change.
-#[derive(Drop)]
+#[derive(Clone, Copy)]
 pub struct Line {
     pub change: usize,
     pub output: usize,
@@ -118,24 +25,125 @@ pub struct Line {
     pub pins: usize,
 }
 
-pub fn put_verdict(buffer: &mut [u8], at: usize, line: Line) -> usize
-    requires { at + length (text_of line) ≤ length buffer.old }
-    ensures { Appended buffer.old buffer.new at result (text_of line) }
+// A class's name by its code.
+#[tactic(auto, unfolding(kung::specs::Class::of_code))]
+fn name(class: u8) -> &'static [u8]
+    ensures { result.now ≡ name_of (of_code class) }
 {
-    let at = put_number(buffer, at, line.change, b' ');
-    let at = put_number(buffer, at, line.output, b' ');
-    let at = put_class(buffer, at, line.class);
-    let at = put_judgement(buffer, at, line.clean);
-    let at = put_number(buffer, at, line.gates, b' ');
-    put_number(buffer, at, line.pins, b'\n')
+    match class % 8 {
+        0 => b"0",
+        1 => b"1",
+        2 => b"R",
+        3 => b"F",
+        4 => b"S0",
+        5 => b"S1",
+        6 => b"D+",
+        _ => b"D-",
+    }
 }
 
-pub fn put_refusal(buffer: &mut [u8], at: usize, number: u8, place: usize) -> usize
-    requires { at + length (refusal_line number place) ≤ length buffer.old }
-    ensures { Appended buffer.old buffer.new at result (refusal_line number place) }
+#[tactic(auto, unfolding(crate::specs::Text::verdict_word))]
+fn judgement(clean: bool) -> &'static [u8]
+    ensures { result.now ≡ verdict_word clean }
 {
-    let at = put_word(buffer, at, b"refused", b' ');
-    let at = put_number(buffer, at, number as usize, b' ');
-    let at = put_word(buffer, at, b"at", b' ');
-    put_number(buffer, at, place, b'\n')
+    if clean { b"clean" } else { b"hazard" }
+}
+
+impl<'a> Text<'a> {
+    ghost use Rattle.report.specs.Appended.{Fits, Appended};
+
+    // The empty text of a buffer.
+    pub fn new(bytes: &'a mut [u8]) -> Text<'a>
+        ensures { (result.bytes ≡ bytes.entry) × (result.written ≡ 0) }
+    {
+        Text { bytes, written: 0 }
+    }
+
+    pub fn len(&self) -> usize
+        ensures { result ≡ self.now.written }
+    {
+        self.written
+    }
+
+    // How many bytes are left.
+    pub fn room(&self) -> usize
+        ensures { result ≡ length self.now.bytes.now - self.now.written }
+    {
+        self.bytes.len() - self.written
+    }
+
+    fn put_byte(&mut self, byte: u8)
+        requires { Fits self.old (byte ∷ []) }
+        ensures { Appended self.old self.new (byte ∷ []) }
+    {
+        self.bytes[self.written] = byte;
+        self.written += 1;
+    }
+
+    fn put_decimal(&mut self, n: usize)
+        requires { Fits self.old (decimal n) }
+        ensures { Appended self.old self.new (decimal n) }
+    {
+        if 10 <= n {
+            self.put_decimal(n / 10);
+        }
+        self.put_byte(b'0' + (n % 10) as u8);
+    }
+
+    // A number, and the blank or line feed after it.
+    fn put_number(&mut self, n: usize, end: u8)
+        requires { Fits self.old (decimal n ++ (end ∷ [])) }
+        ensures { Appended self.old self.new (decimal n ++ (end ∷ [])) }
+    {
+        self.put_decimal(n);
+        self.put_byte(end);
+    }
+
+    // A word, and the blank or line feed after it.
+    fn put_word(&mut self, word: &[u8], end: u8)
+        requires { Fits self.old (word.now ++ (end ∷ [])) }
+        ensures { Appended self.old self.new (word.now ++ (end ∷ [])) }
+    {
+        for byte in word {
+            self.put_byte(*byte);
+        }
+        self.put_byte(end);
+    }
+
+    pub fn put_counts(&mut self, inputs: usize, gates: usize, outputs: usize, changes: usize)
+        requires { Fits self.old (counts_line inputs gates outputs changes) }
+        ensures { Appended self.old self.new (counts_line inputs gates outputs changes) }
+    {
+        self.put_number(inputs, b' ');
+        self.put_word(b"inputs", b' ');
+        self.put_number(gates, b' ');
+        self.put_word(b"gates", b' ');
+        self.put_number(outputs, b' ');
+        self.put_word(b"outputs", b' ');
+        self.put_number(changes, b' ');
+        self.put_word(b"changes", b'\n');
+    }
+
+    pub fn put_verdict(&mut self, line: Line)
+        requires { Fits self.old (text_of line) }
+        ensures { Appended self.old self.new (text_of line) }
+    {
+        self.put_number(line.change, b' ');
+        self.put_number(line.output, b' ');
+        self.put_word(name(line.class), b' ');
+        self.put_word(judgement(line.clean), b' ');
+        self.put_number(line.gates, b' ');
+        self.put_number(line.pins, b'\n');
+    }
+
+    // Number and place and no Refusal: tried, and the caller's proof that its line has room didn't close before the call of `place`.
+    pub fn put_refusal(&mut self, number: u8, place: usize)
+        requires { Fits self.old (refusal_line number place) }
+        ensures { Appended self.old self.new (refusal_line number place) }
+    {
+        self.put_word(b"refused", b' ');
+        self.put_number(number as usize, b' ');
+        self.put_word(b"at", b' ');
+        self.put_number(place, b'\n');
+    }
 }

@@ -1,7 +1,9 @@
-// A decoded card in lent numbers: readers of a gate's pins and word, and of an output's signal.
+// A decoded card in lent numbers: readers of a gate's pins and word, and of an output's signal. Numbers and no structs: what `netlist::decode` leaves
+// in them, the outputs' signals behind the gates' nines, is its promise (`decoded`).
 #![tactic(auto)]
 
 ghost use Rattle.std.specs.Prelude.{◌≡◌, ◌+◌, ◌*◌, ◌≤◌, ◌<◌, length};
+ghost use Rattle.kung.specs.Tables.{tab};
 ghost use Rattle.rows.specs.Rows.{pin_in, word_in, output_in};
 
 // Number k of signal s's nine, which is a pin below 8.
@@ -9,8 +11,15 @@ pub fn pin_of(rows: &[u16], s: usize, k: usize) -> u16
     requires { 9 * s + k < length rows.now }
     ensures { result ≡ pin_in rows.now s k }
 {
-    let at = 9 * s + k;
-    rows[at]
+    rows[9 * s + k]
+}
+
+// The eight pins of signal s's gate.
+pub fn pins_of(rows: &[u16], s: usize) -> &[u16]
+    requires { 9 * s + 8 ≤ length rows.now }
+    ensures { result.now ≡ tab (pin_in rows.now s) 0 8 }
+{
+    &rows[9 * s..9 * s + 8]
 }
 
 // Signal s's word.

@@ -2,15 +2,16 @@
 use Prim.Native.Nat.{ℕ}
 use mathlib.Core.Path.{◌≡◌, refl}
 use mathlib.Core.List.{List, [], ◌∷◌, map}
+use Rattle.std.specs.Prelude.{Ok}
 use Rattle.kung.specs.Class.{Class, c0, c1, R, F, S0, S1, D+, D-, code}
 use Rattle.kung.specs.Rule.{each, some, and_all, or_all, Kind, AND, OR, NAND, NOR, kind_of, gate_class}
 use Rattle.circuit.specs.Circuit.{sources, values}
 use Rattle.words.specs.Words.{word_at, long_at, words_at, marked, outside}
-use Rattle.words.specs.Refusal.{refuse}
+use Rattle.refusals.specs.Refusal.{refuse}
 use Rattle.tie.specs.Tie.{tie_from, tie_of}
 use Rattle.records.specs.Records as records
 use Rattle.netlist.specs.Netlist as netlist
-use Rattle.changes.specs.declared.Listed.TheVariants.{Accepted}
+use Rattle.spares.specs.Spares as spares
 use Rattle.changes.specs.Changes.{bit_at, class_at, sources_of}
 use Rattle.changes.specs.Refusals as list
 use Rattle.simulate.specs.Full.{codes}
@@ -48,6 +49,6 @@ unfolding tie_of tie_from
 mux_tie = refl
 
 mux_accepted : list.list_checked mux_netlist mux_list
-    ≡ Accepted (record { shape = record { inputs = 3; gates = 4; outputs = 1; pins = 7; entries = 33 }; changes = 1; layout = record { version = 1; width = 1; row = 0 } })
-unfolding list.list_checked list.against list.after_netlist list.spares_from list.spare_pair list.spare_at list.spare_bits netlist.checked netlist.checked_within netlist.body_within netlist.body netlist.accepted netlist.shape_of netlist.outputs netlist.counts netlist.opening netlist.records_from netlist.record_at records.most_pins records.least_pins records.no_kind netlist.words_below refuse netlist.pins_below netlist.place_of word_at long_at marked outside tie_of tie_from
+    ≡ Ok (record { shape = record { inputs = 3; gates = 4; outputs = 1; pins = 7; entries = 33 }; changes = 1; layout = record { version = 1; width = 1; row = 0 } })
+unfolding list.list_checked list.against list.after_netlist list.refuse_spare spares.first_spare spares.spare_pair spares.spare_at spares.spare_bits netlist.checked netlist.checked_within netlist.body_within netlist.body netlist.accepted netlist.shape_of netlist.outputs netlist.counts netlist.opening netlist.records_from netlist.record_at records.most_pins records.least_pins records.no_kind netlist.words_below refuse netlist.pins_below netlist.place_of word_at long_at marked outside tie_of tie_from
 mux_accepted = refl

@@ -1,5 +1,6 @@
 -- Documents 01, "The change list", and 02, "Job 1": the spare bits of a list's vectors and rows.
-use Rattle.std.specs.Prelude.{ℕ, zero, suc, ◌+◌, ◌-◌, ◌*◌, ◌/◌, ◌^◌, cond, List, ltb}
+use Rattle.std.specs.Prelude.{ℕ, zero, suc, ◌+◌, ◌-◌, ◌*◌, ◌/◌, ◌^◌, cond, List, ltb, Option, Some, None}
+use Rattle.std.specs.Option.{option_or}
 use Rattle.words.specs.Words.{byte_at}
 
 -- "V being I / 8 rounded up"; "each of O / 8 bytes rounded up": the bytes of so many bits
@@ -25,22 +26,18 @@ spare_bits bits byte = byte / 2 ^ last_bits bits
 abbrev pub spares_at : (bits : ℕ) → List ℕ → (at : ℕ) → ℕ
 spares_at bits l at = spare_bits bits (byte_at l (last_place bits at))
 
--- "first byte with a spare bit": a place, or where it is 0, which is no vector's and no row's, the next one
-unfoldable pub or_else : (place next : ℕ) → ℕ
-or_else place next = cond (ltb 0 place) place next
-
--- of the vector or row at a place; 0 where it has none
-unfoldable pub spare_at : (bits : ℕ) → List ℕ → (at : ℕ) → ℕ
-spare_at bits l at = cond (ltb 0 (spares_at bits l at)) (last_place bits at) 0
+-- "first byte with a spare bit": of the vector or row at a place
+unfoldable pub spare_at : (bits : ℕ) → List ℕ → (at : ℕ) → Option ℕ
+spare_at bits l at = cond (ltb 0 (spares_at bits l at)) (Some (last_place bits at)) None
 
 -- of two, one after the other
-unfoldable pub spare_pair : (bits : ℕ) → List ℕ → (at : ℕ) → ℕ
-spare_pair bits l at = or_else (spare_at bits l at) (spare_at bits l (at + width_of bits))
+unfoldable pub spare_pair : (bits : ℕ) → List ℕ → (at : ℕ) → Option ℕ
+spare_pair bits l at = option_or (spare_at bits l at) (spare_at bits l (at + width_of bits))
 
 -- of the n changes from a place on: the vectors over the inputs, then the rows over the outputs whose ends are declared
-unfoldable pub first_spare : (n inputs declared : ℕ) → List ℕ → (at : ℕ) → ℕ
-first_spare zero inputs declared l at = 0
+unfoldable pub first_spare : (n inputs declared : ℕ) → List ℕ → (at : ℕ) → Option ℕ
+first_spare zero inputs declared l at = None
 first_spare (suc n) inputs declared l at =
-    or_else (spare_pair inputs l at)
-    (or_else (spare_pair declared l (at + 2 * width_of inputs))
+    option_or (spare_pair inputs l at)
+    (option_or (spare_pair declared l (at + 2 * width_of inputs))
     (first_spare n inputs declared l (at + size_of (width_of inputs) (width_of declared))))

@@ -2,17 +2,8 @@
 #![tactic(auto)]
 
 ghost use Rattle.std.specs.Prelude.{◌≡◌, ◌+◌, ◌*◌, ◌^◌, ◌≤◌, ◌<◌, length};
-ghost use Rattle.words.specs.Words.{byte_at};
-ghost use Rattle.spares.specs.Spares.{width_of, size_of, spare_pair, first_spare};
+ghost use Rattle.spares.specs.Spares.{width_of, size_of, spare_at, spare_pair, first_spare};
 ghost use Rattle.spares.specs.Looked.{Cleared};
-
-// A byte inside the list.
-fn byte_in(list: &[u8], at: usize) -> usize
-    requires { at < length list.now }
-    ensures { result ≡ byte_at list.now at }
-{
-    list[at] as usize
-}
 
 // The least byte with a bit past its first `used`.
 fn byte_past(used: usize) -> usize
@@ -22,27 +13,24 @@ fn byte_past(used: usize) -> usize
     1 << used
 }
 
-// The first byte with a spare bit of two vectors or rows of so many bits from a place on, or 0.
-fn spare_in(list: &[u8], at: usize, bits: usize) -> usize
-    requires { (11 ≤ at) × (bits ≤ 256) × (at + 2 * width_of bits ≤ length list.now) }
+// The last byte of the vector or row of so many bits at a place, where it has a spare bit.
+fn spare_at(list: &[u8], at: usize, bits: usize) -> Option<usize>
+    requires { (1 ≤ at) × (bits ≤ 256) × (at + width_of bits ≤ length list.now) }
+    ensures { result ≡ spare_at bits list.now at }
+{
+    // here and below not `div_ceil`: tried, each answer on a width then needs an equation more
+    let width = (bits + 7) / 8;
+    let last = at + width - 1;
+    let least = byte_past(bits + 8 - 8 * width);
+    (least <= list[last] as usize).then_some(last)
+}
+
+// The first byte with a spare bit of two vectors or rows of so many bits from a place on.
+fn spare_in(list: &[u8], at: usize, bits: usize) -> Option<usize>
+    requires { (1 ≤ at) × (bits ≤ 256) × (at + 2 * width_of bits ≤ length list.now) }
     ensures { result ≡ spare_pair bits list.now at }
 {
-    let width = (bits + 7) / 8;
-    // the bits in the last byte
-    let used = bits + 8 - 8 * width;
-    if used == 8 {
-        return 0;
-    }
-    let least = byte_past(used);
-    let first = at + width - 1;
-    if least <= byte_in(list, first) {
-        return first;
-    }
-    let second = at + width + width - 1;
-    if least <= byte_in(list, second) {
-        return second;
-    }
-    0
+    spare_at(list, at, bits).or(spare_at(list, at + (bits + 7) / 8, bits))
 }
 
 // Whether two vectors or rows of so many bits, from a place on and in each change again, may have a spare bit. Their last bytes are united, and looked
@@ -58,16 +46,17 @@ fn may_spare(list: &[u8], at: usize, bits: usize, size: usize, changes: usize) -
         return false;
     }
     let mut last = at + width - 1;
-    let mut all: usize = 0;
+    let mut all: u8 = 0;
+    // not by `chunks_exact`, here and below: a change may have no byte
     for t in 0..changes {
-        all = all | byte_in(list, last) | byte_in(list, last + width);
+        all |= list[last] | list[last + width];
         last += size;
     }
-    byte_past(used) <= all
+    byte_past(used) <= all as usize
 }
 
-// The first byte with a spare bit, change after change, or 0.
-fn spare_from(list: &[u8], inputs: usize, declared: usize, changes: usize) -> usize
+// The first byte with a spare bit, change after change.
+fn spare_from(list: &[u8], inputs: usize, declared: usize, changes: usize) -> Option<usize>
     requires { (inputs ≤ 256) × (declared ≤ 64) × (length list.now ≡ 11 + changes * size_of (width_of inputs) (width_of declared)) }
     ensures { result ≡ first_spare changes inputs declared list.now 11 }
 {
@@ -75,32 +64,28 @@ fn spare_from(list: &[u8], inputs: usize, declared: usize, changes: usize) -> us
     let row = (declared + 7) / 8;
     let mut at: usize = 11;
     for t in 0..changes {
-        let spare = spare_in(list, at, inputs);
-        if 0 < spare {
-            return spare;
-        }
-        let spare = spare_in(list, at + 2 * width, declared);
-        if 0 < spare {
+        let spare = spare_in(list, at, inputs).or(spare_in(list, at + 2 * width, declared));
+        if spare.is_some() {
             return spare;
         }
         at += 2 * width + 2 * row;
     }
-    0
+    None
 }
 
 // The same, looked for only where there may be one.
-pub fn first_spare(list: &[u8], inputs: usize, declared: usize, changes: usize) -> usize
+pub fn first_spare(list: &[u8], inputs: usize, declared: usize, changes: usize) -> Option<usize>
     requires { (inputs ≤ 256) × (declared ≤ 64) × (length list.now ≡ 11 + changes * size_of (width_of inputs) (width_of declared)) }
     ensures { result ≡ first_spare changes inputs declared list.now 11 }
 {
     let width = (inputs + 7) / 8;
     let row = (declared + 7) / 8;
     let size = 2 * width + 2 * row;
-    if may_spare(list, 11, inputs, size, changes) {
-        return spare_from(list, inputs, declared, changes);
+    if may_spare(list, 11, inputs, size, changes)
+        || may_spare(list, 11 + 2 * width, declared, size, changes)
+    {
+        spare_from(list, inputs, declared, changes)
+    } else {
+        None
     }
-    if may_spare(list, 11 + 2 * width, declared, size, changes) {
-        return spare_from(list, inputs, declared, changes);
-    }
-    0
 }

@@ -15,12 +15,12 @@ use Rattle.kung.specs.Members.{insert, members}
 use Rattle.kung.specs.Tables.{tab}
 use Rattle.kung.specs.Gates.{gate_at}
 use Rattle.kung.proofs.Finite.{of_code_code}
-use Rattle.kung.proofs.Listed.{agree, length_tab}
+use Rattle.kung.proofs.Listed.{agree}
 use Rattle.circuit.specs.Circuit.{Each, sources, values, out_of}
 use Rattle.circuit.proofs.Laws.{each_map, values_length, values_at, sources_gate, sources_input, sources_ext}
 use Rattle.search.specs.Pins.{sum_below}
-use Rattle.rows.specs.Rows.{count_in, gate_in, pin_in, word_in, row_kind, row_pins, card_in}
-use Rattle.rows.specs.Lent.{GateRow}
+use Rattle.rows.specs.Rows.{gate_in, word_in, row_kind, row_pins, card_in}
+use Rattle.rows.proofs.Gates.{pins_below}
 use Rattle.sweep.specs.Sweep.{sources_in, codes_of, hots_of, pin_set, any_constant, touched_by}
 use Rattle.sweep.specs.Lent.{Passable}
 use Rattle.sweep.proofs.Pins.{set_class, set_touched}
@@ -31,9 +31,6 @@ front_set p l k b e h =
     let n : suc k ≡ k + 1 = omega arith in
     ap (λ x. set (p ++ x) k b) (drop-cons l k 0 h) ∙ set_at p _ _ b k e ∙ sym (append_assoc p (b ∷ []) (drop (suc k) l))
     ∙ ap (λ (n : ℕ). (p ++ (b ∷ [])) ++ drop n l) n
-
-front_length : (p l : List ℕ) (k : ℕ) → length p ≡ k → k ≤ length l → length (p ++ drop k l) ≡ length l
-front_length p l k e h = length-append p (drop k l) ∙ ap₂ ◌+◌ e (length-drop k l) ∙ omega arith
 
 hots_length : (codes : List ℕ) → length (hots_of codes) ≡ length codes
 unfolding hots_of
@@ -53,28 +50,9 @@ module _ (buffer old : List ℕ) (k : ℕ) where
       ∙ ap (λ x. x ++ drop (k + 1) old)
       (sym (hots_last (take k buffer) (get_or buffer k 0)) ∙ ap hots_of (sym (take-suc buffer k 0 h) ∙ ap (λ (n : ℕ). take n buffer) n))
 
-  pub heat_length : k ≤ length buffer → k ≤ length old → length (hots_of (take k buffer) ++ drop k old) ≡ length old
-  heat_length h l = front_length (hots_of (take k buffer)) old k (hots_length (take k buffer) ∙ length-take-le k buffer h) l
-
 code_below : (b : ℕ) → b < 8 → code (of_code b) ≡ b
 unfolding of_code tab
 code_below b h = agree (λ b. code (of_code b)) (λ b. b) 8 refl b h
-
--- what holds of each number of a row holds of the list
-each_tab : (P : ℕ → Type 0) (f : ℕ → ℕ) (i n : ℕ) → ((k : ℕ) → i ≤ k → k < i + n → P (f k)) → Each P (tab f i n)
-unfolding tab
-each_tab P f i zero h = tt
-each_tab P f i (suc n) h = (h i (omega arith) (omega arith), each_tab P f (suc i) n (λ k a b. h k (omega arith) (omega arith)))
-
--- a gate's pins name signals below its own
-pub pins_below_lem : (rows : List ℕ) (s : ℕ) → GateRow rows s → Each (λ x. x < s) (row_pins rows s)
-unfolding row_pins
-pins_below_lem rows s r =
-    each_tab (λ x. x < s) (pin_in rows s) 0 (count_in (word_in rows s)) (λ k a b. r.below k (omega (arith, r.count_eight)))
-
-pins_length : (rows : List ℕ) (s : ℕ) (v : ℕ → Class) → length (map v (row_pins rows s)) ≡ count_in (word_in rows s)
-unfolding row_pins
-pins_length rows s v = length-map (row_pins rows s) v ∙ length_tab (pin_in rows s) 0 (count_in (word_in rows s))
 
 get_d_map : (f : ℕ → ℕ) (l : List ℕ) (x : ℕ) → x < length l → get_or (map f l) x 0 ≡ f (get_or l x 0)
 get_d_map f [] x h = absurd (omega arith)
@@ -163,7 +141,7 @@ module _ (rows buffer : List ℕ) (inputs gates : ℕ) where
     -- Before gate g, whose pins' sets are the first of `now`.
     module _ (old now : List ℕ) (g : ℕ) (h : g < gates) (is : now ≡ hots_of (codes_to (inputs + g)) ++ drop (inputs + g) old) where
       pins_hot : Each (λ x. get_or now x 0 ≡ insert 0 (classes_to (inputs + g) x)) (row_pins rows (inputs + g))
-      pins_hot = each_map hot (row_pins rows (inputs + g)) (pins_below_lem rows (inputs + g) (ready.gate g h))
+      pins_hot = each_map hot (row_pins rows (inputs + g)) (pins_below rows (inputs + g) (ready.gate g h))
         where
           hot : (x : ℕ) → x < inputs + g → get_or now x 0 ≡ insert 0 (classes_to (inputs + g) x)
           hot x less =
@@ -187,7 +165,7 @@ module _ (rows buffer : List ℕ) (inputs gates : ℕ) where
           ap (λ b. bit b + touched_by rows (codes_to (inputs + gates)) inputs g)
           (set_touched now (row_pins rows (inputs + g)) (classes_to (inputs + g)) pins_hot (codes_to (inputs + gates))
           (each_map (λ x less. sym (codes_at (inputs + g) (inputs + gates) x less (omega arith))) (row_pins rows (inputs + g))
-          (pins_below_lem rows (inputs + g) (ready.gate g h))))
+          (pins_below rows (inputs + g) (ready.gate g h))))
           ∙ touched_more (codes_to (inputs + gates)) g
 
       -- one gate more
@@ -212,13 +190,6 @@ module _ (rows buffer : List ℕ) (inputs gates : ℕ) where
             ap (λ l. set l (inputs + g) (insert 0 (of_code b))) is
             ∙ front_set (hots_of (codes_to (inputs + g))) old (inputs + g) _ (hots_length (codes_to (inputs + g)) ∙ codes_length (inputs + g)) room
             ∙ ap₂ (λ l (m : ℕ). l ++ drop m old) (sym (hots_last (codes_to (inputs + g)) b) ∙ ap hots_of with_next) n
-
-    -- both buffers keep their lengths
-    pub pass_length : (n : ℕ) → n ≤ inputs + gates → length (codes_to n ++ drop n buffer) ≡ length buffer
-    pass_length n h = front_length (codes_to n) buffer n (codes_length n) (omega (arith, ready.room))
-
-    pub hot_length : (old : List ℕ) (n : ℕ) → n ≤ length old → length (hots_of (codes_to n) ++ drop n old) ≡ length old
-    hot_length old n h = front_length (hots_of (codes_to n)) old n (hots_length (codes_to n) ∙ codes_length n) h
 
 -- the codes by the inputs' classes, whichever buffer has them
 pub codes_from : (rows buffer : List ℕ) (inputs gates n : ℕ) (v : ℕ → Class) → ((i : ℕ) → i < inputs → of_code (get_or buffer i 0) ≡ v i)

@@ -5,13 +5,12 @@ use native.Mathlib.Decide.{dec_lt}
 use native.Mathlib.Numerals.{add-one}
 use native.Mathlib.Nat.{zero-add}
 use mathlib.Core.Path.{◌≡◌, refl, sym, ◌∙◌, ap, ap₂}
-use mathlib.Core.Bool.{Bool, true, false, cond, ◌||◌, beq, false≢true}
+use mathlib.Core.Bool.{Bool, true, false, ◌||◌, or_assoc, or_comm, beq, false≢true}
 use mathlib.Core.List.{List, [], ◌∷◌, ◌++◌, map}
-use lib.Dec.{eqb}
 use lib.ListN.{get_or}
 use Rattle.kung.specs.Class.{Class, c0, c1, code, same}
-use Rattle.kung.specs.Rule.{some, NOT, BUFFER, AND, OR, NAND, NOR, gate_class}
-use Rattle.kung.specs.Operation.{and, or, invert_if, join_all}
+use Rattle.kung.specs.Rule.{some, gate_class}
+use Rattle.kung.specs.Operation.{invert_if, join_all}
 use Rattle.kung.specs.Sets.{set_of, has}
 use Rattle.kung.specs.Members.{members, insert, collect}
 use Rattle.kung.specs.Tables.{tab}
@@ -23,8 +22,9 @@ use Rattle.kung.proofs.SetLaws.{has_set_of, set_of_ext, has_one}
 use Rattle.kung.proofs.Gates.{gate_collect, collect_is}
 use Rattle.circuit.specs.Circuit.{Each}
 use Rattle.circuit.proofs.Laws.{each_map}
-use Rattle.rows.specs.Rows.{count_in, gate_in, inverts_in, kind_in, pin_in, word_in, row_pins}
+use Rattle.rows.specs.Rows.{count_in, gate_in, kind_in, pin_in, word_in, row_pins}
 use Rattle.rows.specs.Lent.{GateRow, Repeats}
+use Rattle.rows.proofs.Gates.{gate_operation, inverts_is}
 use Rattle.sweep.specs.Sweep.{pin_set, is_constant_code, any_constant}
 
 -- one number more in a row
@@ -35,16 +35,8 @@ tab_last f i (suc n) = ap (λ l. f i ∷ l) (tab_last f (suc i) n ∙ ap (λ (k 
 
 some_last : (g : ℕ → Bool) (xs : List ℕ) (x : ℕ) → some g (xs ++ (x ∷ [])) ≡ some g xs || g x
 unfolding some
-some_last g [] x = none (g x)
-  where
-    none : (b : Bool) → (b || false) ≡ b
-    none true = refl
-    none false = refl
-some_last g (y ∷ xs) x = ap (λ b. g y || b) (some_last g xs x) ∙ assoc (g y) (some g xs) (g x)
-  where
-    assoc : (a b c : Bool) → (a || (b || c)) ≡ ((a || b) || c)
-    assoc true b c = refl
-    assoc false b c = refl
+some_last g [] x = or_comm (g x) false
+some_last g (y ∷ xs) x = ap (λ b. g y || b) (some_last g xs x) ∙ sym (or_assoc (g y) (some g xs) (g x))
 
 pub some_next : (g : ℕ → Bool) (p : ℕ → ℕ) (n : ℕ) → some g (tab p 0 (n + 1)) ≡ some g (tab p 0 n) || g (p n)
 some_next g p n =
@@ -114,21 +106,10 @@ some_map f v (x ∷ xs) = ap (λ b. f (v x) || b) (some_map f v xs)
 
 -- a word's gate has its kind's operation and inversion
 kind_is : (word : ℕ) (ps : List Class) → gate_at (gate_in word) ps ≡ gate_class (kind_in word) ps
-unfolding kind_in gate_at
+unfolding gate_at
 kind_is word ps =
     let a : gate_in word / 2 % 2 ≡ gate_in word / 2 = omega arith in
-    let b : gate_in word % 2 ≡ word % 2 = omega arith in
-    rw (a, b) (go (eqb (word % 2) 0) (eqb (count_in word) 1) (inverts_in word))
-  where
-    go : (even one inverted : Bool)
-        → invert_if inverted (join_all (cond even and or) ps)
-        ≡ gate_class (cond even (cond one (cond inverted NOT BUFFER) (cond inverted NAND AND)) (cond inverted NOR OR)) ps
-    go true true true = sym (gate_class_op NOT ps)
-    go true true false = sym (gate_class_op BUFFER ps)
-    go true false true = sym (gate_class_op NAND ps)
-    go true false false = sym (gate_class_op AND ps)
-    go false one true = sym (gate_class_op NOR ps)
-    go false one false = sym (gate_class_op OR ps)
+    rw a (λ i. invert_if (inverts_is word i) (join_all (gate_operation word i) ps)) ∙ sym (gate_class_op (kind_in word) ps)
 
 -- Where each pin's set is that of its driver's class alone, their union tells the gate's class, and whether a driver is constant.
 module _ (hot pins : List ℕ) (v : ℕ → Class) (is : Each (λ x. get_or hot x 0 ≡ insert 0 (v x)) pins) where

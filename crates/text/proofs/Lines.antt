@@ -1,10 +1,9 @@
 -- The first line and the lines of each change to print are not empty. Assumes nothing.
+use Rattle.std.specs.Prelude.{Ok, Err}
 use Rattle.std.proofs.Common.{◌≡◌, ℕ, zero, suc, ◌+◌, ◌<◌, ◌≤◌, List, length, refl, arith, length-append}
 use Rattle.netlist.specs.Netlist.{outputs_of}
 use Rattle.netlist.proofs.Accepted.{formed}
-use Rattle.changes.specs.declared.Listed.{Listed}
-use Rattle.changes.specs.declared.Listed.TheVariants.{Accepted, Refused}
-use Rattle.changes.specs.Refusals.{list_checked}
+use Rattle.changes.specs.Refusals.{Listed, list_checked}
 use Rattle.changes.proofs.Accepted.{listed}
 use Rattle.report.specs.Text.{counts_line, verdict_line, refusal_line}
 use Rattle.report.proofs.Lengths.{line_some}
@@ -30,13 +29,13 @@ module _ (n l : List ℕ) where
       go (suc k) h = simp length-append (omega (arith, output_some t (0 + k)))
 
       find : (listed : Listed) → list_checked n l ≡ listed → t < printed_changes listed → 1 ≤ length (texts (output_line n l t) 0 (outputs_of n))
-      find (Refused number place) e h = absurd (omega arith)
-      find (Accepted task) e h = let f = formed n (listed n l e).netlist_accepted in go (outputs_of n) (omega (arith, f.outputs_low, f.outputs_are))
+      find (Err refusal) e h = absurd (omega arith)
+      find (Ok task) e h = let f = formed n (listed n l e).netlist_accepted in go (outputs_of n) (omega (arith, f.outputs_low, f.outputs_are))
 
   pub first_some : 1 ≤ length (first_line (list_checked n l))
   unfolding first_line refusal_line counts_line
   first_some = go (list_checked n l)
     where
       go : (listed : Listed) → 1 ≤ length (first_line listed)
-      go (Refused number place) = line_some _ _
-      go (Accepted task) = line_some _ _
+      go (Err refusal) = line_some _ _
+      go (Ok task) = line_some _ _

@@ -1,9 +1,7 @@
 -- Document 01, "Gate walk and program": what the program prints.
-use Rattle.std.specs.Prelude.{ℕ, Bool, true, false, List, ◌++◌}
+use Rattle.std.specs.Prelude.{ℕ, Bool, true, false, List, ◌++◌, Ok, Err}
 use Rattle.netlist.specs.Netlist.{outputs_of, output_at}
-use Rattle.changes.specs.declared.Listed.{Listed}
-use Rattle.changes.specs.declared.Listed.TheVariants.{Accepted, Refused}
-use Rattle.changes.specs.Refusals.{list_checked}
+use Rattle.changes.specs.Refusals.{Listed, list_checked}
 use Rattle.simulate.specs.Full.{class_in}
 use Rattle.search.specs.Search.{Verdict, clean, hazardous}
 use Rattle.core_search.specs.Core.{search_of}
@@ -27,8 +25,8 @@ change_lines n l change = texts (output_line n l change) 0 (outputs_of n)
 
 -- the changes to print: none on a refusal
 unfoldable pub printed_changes : Listed → ℕ
-printed_changes (Refused number place) = 0
-printed_changes (Accepted task) = task.changes
+printed_changes (Err refusal) = 0
+printed_changes (Ok task) = task.changes
 
 -- all that is printed
 unfoldable pub printed : (netlist list : List ℕ) → List ℕ

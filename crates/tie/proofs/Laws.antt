@@ -1,7 +1,9 @@
 -- Laws of the tie. Assumes nothing.
-use Rattle.std.proofs.Common.{◌≡◌, ℕ, zero, suc, ◌+◌, ◌-◌, ◌*◌, ◌%◌, ◌<◌, ◌≤◌, List, [], ◌∷◌, length, get_or, drop, sym, refl, ap, ◌∙◌, add-zero, mod-eq_of_lt, suc-mul, add-mul, zero-add, mul-add, add-one, arith, drop-cons, ext_get_or}
-use native.Mathlib.Nat.{mod-add-mod, add-mod-mod, add-mod}
+use Rattle.std.proofs.Common.{◌≡◌, ℕ, zero, suc, ◌+◌, ◌-◌, ◌*◌, ◌/◌, ◌%◌, ◌<◌, ◌≤◌, List, [], ◌∷◌, length, get_or, take, drop, sym, refl, ap, ◌∙◌, add-zero, mod-eq_of_lt, suc-mul, zero-add, mul-add, add-one, arith, drop-cons, ext_get_or}
+use Rattle.std.proofs.lemmas.List.{drop-drop, get_or-take, get_or-drop}
+use native.Mathlib.Nat.{mul-zero, mul-suc, add_comm, add_assoc, mod-add-mod, add-mod-mod, add-mod}
 use lib.Seq.{drop-length}
+use Rattle.std.specs.Simd.{first_chunks}
 use Rattle.words.specs.Words.{byte_at}
 use Rattle.tie.specs.Tie.{grown, tie_from}
 use Rattle.tie.specs.Blocks.{sum_at, weight_at, column_at, columns_from, columns_at}
@@ -43,28 +45,21 @@ tie_block n a b s i p q h =
     let e : tie_from (a % 4294967296) (b % 4294967296) (drop i s) ≡ tie_from a b (drop i s) = rw (mod-eq_of_lt p, mod-eq_of_lt q) in
     sym e ∙ exact_mod a b (drop i s) ∙ ap (λ x. x % 4294967296) (exact_block n a b s i h) ∙ sym (exact_mod _ _ _)
 
--- what the blocks carry over: a number doubled, wrapping, and put into the second sum
-pub doubled : (n a x y : ℕ) → x ≡ n * a % 4294967296 → y ≡ (x + x) % 4294967296 → y ≡ (n + n) * a % 4294967296
-doubled n a x y e d = d ∙ rw (e, ← add-mod (n * a) (n * a) 4294967296, add-mul n n a)
-
+-- what the blocks carry over to the second sum, wrapping
 pub carried : (b c w : ℕ) → ((b + c % 4294967296) % 4294967296 + w) % 4294967296 ≡ (b + c + w) % 4294967296
 carried b c w = rw (add-mod-mod b c 4294967296, mod-add-mod (b + c) 4294967296 w)
 
 -- the sums of n bytes, where those from byte k on are left
-module _ (n : ℕ) (s : List ℕ) (at k : ℕ) (h : k < n) where
-  pub sum_more : sum_at (n - k) s (at + k) ≡ byte_at s (at + k) + sum_at (n - (k + 1)) s (at + (k + 1))
-  unfolding sum_at
-  sum_more =
-      let e : n - k ≡ suc (n - (k + 1)) = omega arith in
-      let d : at + k + 1 ≡ at + (k + 1) = omega arith in
-      rw (e, d)
+pub sum_more : (n : ℕ) (s : List ℕ) (k p : ℕ) → k < n → sum_at (n - k) s p ≡ byte_at s p + sum_at (n - (k + 1)) s (p + 1)
+unfolding sum_at
+sum_more n s k p h = let e : n - k ≡ suc (n - (k + 1)) = omega arith in rw e
 
-  pub weight_more : weight_at (n - k) s (at + k) ≡ (n - k) * byte_at s (at + k) + weight_at (n - (k + 1)) s (at + (k + 1))
-  unfolding weight_at
-  weight_more =
-      let e : n - k ≡ suc (n - (k + 1)) = omega arith in
-      let d : at + k + 1 ≡ at + (k + 1) = omega arith in
-      rw (e, d)
+weight_more : (n : ℕ) (s : List ℕ) (at k : ℕ) → k < n → weight_at (n - k) s (at + k) ≡ (n - k) * byte_at s (at + k) + weight_at (n - (k + 1)) s (at + (k + 1))
+unfolding weight_at
+weight_more n s at k h =
+    let e : n - k ≡ suc (n - (k + 1)) = omega arith in
+    let d : at + k + 1 ≡ at + (k + 1) = omega arith in
+    rw (e, d)
 
 pub sum_end : (n : ℕ) (s : List ℕ) (at k : ℕ) → n ≤ k → sum_at (n - k) s at ≡ 0
 unfolding sum_at
@@ -73,6 +68,37 @@ sum_end n s at k h = let e : n - k ≡ 0 = omega arith in rw e
 pub weight_end : (n : ℕ) (s : List ℕ) (at k : ℕ) → n ≤ k → weight_at (n - k) s at ≡ 0
 unfolding weight_at
 weight_end n s at k h = let e : n - k ≡ 0 = omega arith in rw e
+
+-- the blocks of n bytes, and a block's sums by its place among all bytes
+blocks_at : (n k : ℕ) (s : List ℕ) (i : ℕ) → i < k → get_or (first_chunks n k s) i [] ≡ take n (drop (n * i) s)
+blocks_at n zero s i h = absurd (omega arith)
+blocks_at n (suc k) s zero h = rw mul-zero
+blocks_at n (suc k) s (suc i) h = rw (blocks_at n k (drop n s) i (omega arith), drop-drop, mul-suc, add_comm n (n * i))
+
+block_byte : (m : ℕ) (s : List ℕ) (p k : ℕ) → k < m → byte_at (take m (drop p s)) k ≡ byte_at s (p + k)
+block_byte m s p k h = get_or-take m (drop p s) k 0 h ∙ get_or-drop p s k 0
+
+module _ (m : ℕ) (s : List ℕ) (p : ℕ) where
+  block_sum_at : (n k : ℕ) → k + n ≤ m → sum_at n (take m (drop p s)) k ≡ sum_at n s (p + k)
+  unfolding sum_at
+  block_sum_at zero k h = refl
+  block_sum_at (suc n) k h = rw (block_byte m s p k (omega arith), block_sum_at n (k + 1) (omega arith), add_assoc)
+
+  block_weight_at : (n k : ℕ) → k + n ≤ m → weight_at n (take m (drop p s)) k ≡ weight_at n s (p + k)
+  unfolding weight_at
+  block_weight_at zero k h = refl
+  block_weight_at (suc n) k h = rw (block_byte m s p k (omega arith), block_weight_at n (k + 1) (omega arith), add_assoc)
+
+-- one block more of the tie
+pub block_more : (a b : ℕ) (s : List ℕ) (blocks : List (List ℕ)) (i : ℕ) → a < 4294967296 → b < 4294967296 → blocks ≡ first_chunks 64 (length s / 64) s → i < length s / 64
+    → tie_from a b (drop (64 * i) s)
+    ≡ tie_from ((a + sum_at 64 (get_or blocks i []) 0) % 4294967296) (((b + a * 64 % 4294967296) % 4294967296 + weight_at 64 (get_or blocks i []) 0) % 4294967296) (drop (64 * (i + 1)) s)
+block_more a b s blocks i p q front h =
+    let at = 64 * i in
+    let next : 64 * (i + 1) ≡ at + 64 = omega arith in
+    let times : a * 64 ≡ 64 * a = omega arith in
+    rw (front, carried b (a * 64), times, blocks_at 64 (length s / 64) s i h, block_sum_at 64 s at 64 0 (omega arith), block_weight_at 64 s at 64 0 (omega arith), add-zero at, next)
+    (tie_block 64 a b s at p q (omega arith))
 
 -- the columns of a block, as a list
 columns_length : (n : ℕ) (s : List ℕ) (at k : ℕ) → length (columns_from n s at k) ≡ n

@@ -24,7 +24,7 @@ use Rattle.cells.proofs.Cells.{cell_new, cell_open, cell_known, known_small, mar
 use Rattle.visit.specs.Source.{signal_of, source_from}
 use Rattle.visit.specs.Codes.{told_of}
 use Rattle.visit.specs.Cells.{cells_from, cells_in, Marked}
-use Rattle.visit.proofs.Sources.{inverts_is}
+use Rattle.rows.proofs.Gates.{inverts_is}
 
 -- the definition's cells, one by one
 from_length : (rows : List ℕ) (i : ℕ) (bytes : List ℕ) → length (cells_from rows i bytes) ≡ length bytes
@@ -87,7 +87,7 @@ module _ (rows bytes : List ℕ) where
         driver_of (signal_of rows s (get_or-map known_of bytes s 0 i))
         ((ap cell_of cells_at ∙ cell_of_byte_of (cell_in Inverts (get_or bytes s 0))) i)
 
-told_or_lem : (one : Option Class) (p : Class) (next : ℕ) → told_of (told_or one p next) ≡ code_or one
+pub told_or_lem : (one : Option Class) (p : Class) (next : ℕ) → told_of (told_or one p next) ≡ code_or one
 told_or_lem (some k) p next = refl
 told_or_lem none p next = refl
 

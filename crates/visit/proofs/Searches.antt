@@ -3,7 +3,7 @@ use Prim.Native.Nat.{ℕ, suc, ◌+◌, ◌-◌, ◌≤◌, ◌<◌}
 use native.Mathlib.Omega.{arith}
 use native.Mathlib.Decide.{dec_lt}
 use mathlib.Core.Path.{◌≡◌, refl, sym, ◌∙◌, ap, ap₂}
-use mathlib.Core.List.{List, [], ◌∷◌, ◌++◌}
+use mathlib.Core.List.{List, [], ◌++◌}
 use lib.ListN.{length, get_or, take, drop, length-map, length-drop, length-replicate, get_or-map}
 use lib.Seq.{ext_get_or, get_or-drop, get_or-take, length-take-le}
 use borrow.Author.Tests.{lt-ltb}
@@ -17,6 +17,7 @@ use Rattle.search.specs.Search.{byte_of, fresh, total, visited_of, next_of, cell
 use Rattle.search.proofs.Laws.{fresh_at, total_fresh}
 use Rattle.search.proofs.Same.{search_any}
 use Rattle.checks.specs.Codes.{waiting_of, ending_of}
+use Rattle.cells.specs.declared.Counts.{Counts}
 use Rattle.cells.specs.Cells.{known_of, known_in}
 use Rattle.cells.proofs.Cells.{cell_new, known_small, fresh_known_of}
 use Rattle.visit.specs.declared.Verdict.{Verdict}
@@ -52,16 +53,16 @@ module _ (rows bytes : List ℕ) (afresh : Afresh bytes) where
       (λ t less.
       cells_at rows bytes t ∙ ap byte_of (cell_new (inverts_in (word_in rows t)) (get_or bytes t 0) (omega (arith, afresh t))) ∙ sym (fresh_at (length bytes) t))
 
-  pub fresh_tally : 0 ∷ 0 ∷ [] ≡ tally_of (cells_in rows bytes)
+  pub fresh_tally : ◌≡◌ {A = Counts} record { gates = 0; pins = 0 } (tally_of (cells_in rows bytes))
   unfolding total
   fresh_tally =
-      sym (ap tally_of fresh_cells ∙ ap₂ (λ (x y : ℕ). x ∷ y ∷ []) (total_fresh visited_of refl [] (length bytes)) (total_fresh next_of refl [] (length bytes)))
+      sym (ap tally_of fresh_cells ∙ ap₂ (λ (x y : ℕ). record { gates = x; pins = y }) (total_fresh visited_of refl [] (length bytes)) (total_fresh next_of refl [] (length bytes)))
 
   pub fresh_marks : (n : ℕ) → Marks rows bytes n
   fresh_marks n s less = fresh_marked rows s (get_or bytes s 0) (afresh s)
 
   module _ (w s : ℕ) (falling : Falling (source_from rows bytes)) (there : s < length bytes) (searched : 8 ≤ get_or bytes s 0) (r : ℕ)
-      (exit tally : List ℕ) (takes : Takes rows s w 16 bytes exit tally r) where
+      (exit : List ℕ) (tally : Counts) (takes : Takes rows s w 16 bytes exit tally r) where
     abbrev Src : ℕ → Source Class
     Src = source_from rows bytes
 
@@ -80,7 +81,7 @@ module _ (rows bytes : List ℕ) (afresh : Afresh bytes) where
         ∙ (λ i. ended_of nobody (take_pin (source_from rows (fresh_known i)) (visit (source_from rows (fresh_known i)) (suc s)) s w nobody (fresh_cells i)))
         ∙ ap (ended_of nobody) taken
 
-    pub search_visited : (found : Found) → found.verdict ≡ verdict_from r → found.gates ≡ get_or tally 0 0 → found.pins ≡ get_or tally 1 0
+    pub search_visited : (found : Found) → found.verdict ≡ verdict_from r → found.gates ≡ tally.gates → found.pins ≡ tally.pins
         → found ≡ found_of (search Src w s)
     search_visited found v g p =
         go Visited ended ∙ ap (λ d. found_of (answer_of w (end_from Src (suc s) d w s (fresh (length bytes))))) (sym (source_gate rows bytes s searched))
@@ -93,8 +94,8 @@ module _ (rows bytes : List ℕ) (afresh : Afresh bytes) where
             λ i.
             record {
               verdict = (v ∙ ap verdict_from o ∙ verdict_ended e.0) i;
-              gates = (g ∙ ap (λ t. get_or t 0 0) c) i;
-              pins = (p ∙ ap (λ t. get_or t 1 0) c) i;
+              gates = (g ∙ ap (λ t. t.gates) c) i;
+              pins = (p ∙ ap (λ t. t.pins) c) i;
             }
 
     -- what was known is left, as far as the search went: below the first gate and above signal s nothing is written

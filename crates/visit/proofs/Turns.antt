@@ -13,20 +13,21 @@ use Rattle.kung.specs.Class.{Class, c0, of_code}
 use Rattle.kung.specs.Operation.{op_of, inverts, invert_if}
 use Rattle.kung.specs.Sets.{possible}
 use Rattle.rows.specs.Rows.{count_in, gate_in, inverts_in, word_in, row_kind, row_pins}
-use Rattle.search.specs.Search.{kept, byte_of, next_of, visited_of, put, possible_of, only, gates_visited, pins_taken}
+use Rattle.search.specs.Search.{kept, byte_of, next_of, visited_of, put, possible_of, only, gates_visited}
 use Rattle.search.proofs.Laws.{next_of_byte_of}
 use Rattle.search.proofs.Counts.{total_put, visited_kept}
 use Rattle.checks.specs.Codes.{code_or}
+use Rattle.cells.specs.declared.Counts.{Counts}
 use Rattle.cells.specs.Codes.{begun_from, arrived_tally, mark_of}
 use Rattle.cells.specs.Cells.{cell_in, known_of, known_in, told_in}
 use Rattle.checks.proofs.Checks.{only_own}
 use Rattle.cells.proofs.Cells.{cell_new, cell_open, known_set, mark_cell, mark_large, untold_between, begun_next}
 use Rattle.visit.specs.Cells.{cells_in, Marked, Marks}
 use Rattle.visit.specs.Visits.{tally_of, Lends, Takes}
-use Rattle.visit.proofs.Sources.{inverts_is}
+use Rattle.rows.proofs.Gates.{inverts_is}
 use Rattle.visit.proofs.Totals.{pins_few, tally_put}
 use Rattle.visit.proofs.Cells.{cells_length, cells_at, cells_small, cells_set, mark_marked}
-use Rattle.visit.proofs.Visits.{Ends, Arrived, arrived, counted_set}
+use Rattle.visit.proofs.Visits.{Ends, Arrived, within, arrived, counted_set}
 
 set_small : (bytes : List ℕ) (s b t : ℕ) → b < 256 → get_or bytes t 0 < 256 → get_or (set bytes s b) t 0 < 256
 set_small [] s b t h small = small
@@ -36,7 +37,7 @@ set_small (a ∷ bytes) (suc s) b zero h small = small
 set_small (a ∷ bytes) (suc s) b (suc t) h small = set_small bytes s b t h small
 
 -- the bytes in a visit of signal s, against those on arrival
-pub record Held (rows : List ℕ) (s : ℕ) (begun bytes tally : List ℕ) : Type 0 where
+pub record Held (rows : List ℕ) (s : ℕ) (begun bytes : List ℕ) (tally : Counts) : Type 0 where
   pub there : s < length bytes
   pub few : length bytes ≤ 2304
   pub small : (t : ℕ) → get_or bytes t 0 < 256
@@ -65,32 +66,32 @@ unfolding put
 put_put cells s p q i j = set-set cells s (byte_of (kept p i)) (byte_of (kept q j))
 
 -- an unfinished gate's pins are counted
-pub pins_counted : (rows : List ℕ) (s : ℕ) (entry tally : List ℕ) → Lends rows s entry tally → told_in (get_or entry s 0) ≡ 8
-    → get_or entry s 0 / 8 - 2 ≤ get_or tally 1 0
+pub pins_counted : (rows : List ℕ) (s : ℕ) (entry : List ℕ) (tally : Counts) → Lends rows s entry tally → told_in (get_or entry s 0) ≡ 8
+    → get_or entry s 0 / 8 - 2 ≤ tally.pins
 pins_counted rows s entry tally lends untold =
     let counts = arrival_counts (inverts_in (word_in rows s)) (get_or entry s 0) (untold_between (get_or entry s 0) untold).1 in
     omega (
       arith,
       counts.1,
       ap next_of (cells_at rows entry s),
-      ap (λ t. get_or t 1 0) lends.tallied,
+      ap (λ t. t.pins) lends.tallied,
       total_put next_of (cells_in rows entry) s (kept c0 0)
           (rw (cells_length rows entry) lends.there),
     )
 
 -- what holds on arrival
-pub record Begun (rows : List ℕ) (s w waiter : ℕ) (entry : List ℕ) (p next : ℕ) (begun tally : List ℕ) : Type 0 where
+pub record Begun (rows : List ℕ) (s w waiter : ℕ) (entry : List ℕ) (p next : ℕ) (begun : List ℕ) (tally : Counts) : Type 0 where
   pub small : p < 8
-  pub few : next ≤ 13
+  pub within : next ≤ count_in (word_in rows s)
   pub held : Held rows s begun begun tally
   pub marked : Marks rows begun s
   pub known : known_in begun ≡ known_in entry
   pub above : (t : ℕ) → s < t → get_or begun t 0 ≡ get_or entry t 0
   pub starts : Arrived rows (known_in entry) s w waiter (cells_in rows entry) p next (put (cells_in rows begun) s (kept (of_code p) next))
 
-module _ (rows : List ℕ) (s w waiter : ℕ) (entry tally : List ℕ) (lends : Lends rows s entry tally) (untold : told_in (get_or entry s 0) ≡ 8) (p next : ℕ)
+module _ (rows : List ℕ) (s w waiter : ℕ) (entry : List ℕ) (tally : Counts) (lends : Lends rows s entry tally) (untold : told_in (get_or entry s 0) ≡ 8) (p next : ℕ)
     (p_is : p ≡ begun_from (gate_in (word_in rows s)) (get_or entry s 0) % 8) (next_is : next ≡ begun_from (gate_in (word_in rows s)) (get_or entry s 0) / 8 - 2)
-    (begun tally₁ : List ℕ) (written : begun ≡ set entry s (16 + p)) (counted : tally₁ ≡ arrived_tally tally (get_or entry s 0)) where
+    (begun : List ℕ) (tally₁ : Counts) (written : begun ≡ set entry s (16 + p)) (counted : tally₁ ≡ arrived_tally tally (get_or entry s 0)) where
   abbrev Inverted : Bool
   Inverted = inverts_in (word_in rows s)
 
@@ -122,16 +123,13 @@ module _ (rows : List ℕ) (s w waiter : ℕ) (entry tally : List ℕ) (lends : 
             counted ∙ ap (λ t. arrived_tally t (get_or entry s 0)) lends.tallied
             ∙ tally_put (cells_in rows entry) s (of_code (16 + p)) ((16 + p) / 8 - 2) _ _ (rw (cells_length rows entry) lends.there)
             (rw (cells_at rows entry s) (omega (arith, counts.0)))
-            (rw (cells_at rows entry s) (omega (arith, counts.1, pins, pins_counted rows s entry tally lends untold, ap (λ t. get_or t 1 0) lends.tallied)))
+            (rw (cells_at rows entry s) (omega (arith, counts.1, pins_counted rows s entry tally lends untold, ap (λ t. t.pins) lends.tallied)))
             ∙ ap tally_of (sym cells_begun);
         own = omega (arith, ap (λ l. get_or l s 0) written ∙ get_or-set_same entry s (16 + p) 0 lends.there, p_small);
         known = refl;
         above = λ t h. refl;
       }
     where
-      pins : get_or (tally_of (cells_in rows entry)) 1 0 ≡ pins_taken (cells_in rows entry)
-      pins = refl
-
       counts : (cond (ltb (get_or entry s 0) 16) 1 0 + visited_of (byte_of (cell_in Inverted (get_or entry s 0))) ≡ 1)
           × (next_of (byte_of (cell_in Inverted (get_or entry s 0))) ≡ get_or entry s 0 / 8 - 2)
       counts = arrival_counts Inverted (get_or entry s 0) (untold_between (get_or entry s 0) untold).1
@@ -140,7 +138,7 @@ module _ (rows : List ℕ) (s w waiter : ℕ) (entry tally : List ℕ) (lends : 
   begins =
       record {
         small = p_small;
-        few = omega (arith, next_is, begun_next (gate_in (word_in rows s)) (get_or entry s 0), (untold_between (get_or entry s 0) untold).1);
+        within = omega (arith, next_is, begun_next (gate_in (word_in rows s)) (get_or entry s 0), within rows s w waiter entry untold (lends.marked s (omega arith)));
         held = begun_held;
         marked = begun_marks;
         known = begun_known;
@@ -160,16 +158,16 @@ own_cell rows s bytes own =
     cells_at rows bytes s
     ∙ ap byte_of (cell_open (inverts_in (word_in rows s)) byte (omega arith) (omega arith) ∙ ap (kept (of_code byte)) none)
 
-pub held_length : (rows : List ℕ) (s : ℕ) (begun bytes tally : List ℕ) → Held rows s begun bytes tally → length bytes ≡ length begun
+pub held_length : (rows : List ℕ) (s : ℕ) (begun bytes : List ℕ) (tally : Counts) → Held rows s begun bytes tally → length bytes ≡ length begun
 held_length rows s begun bytes tally held = sym (length-map bytes known_of) ∙ ap length held.known ∙ length-map begun known_of
 
 -- so few pins were taken that they have room
-pub held_pins : (rows : List ℕ) (s : ℕ) (begun bytes tally : List ℕ) → Held rows s begun bytes tally → get_or tally 1 0 ≤ 36864
+pub held_pins : (rows : List ℕ) (s : ℕ) (begun bytes : List ℕ) (tally : Counts) → Held rows s begun bytes tally → tally.pins ≤ 36864
 held_pins rows s begun bytes tally held =
-    omega (arith, ap (λ t. get_or t 1 0) held.tallied, pins_few (cells_in rows bytes) (λ t. cells_small rows bytes t (held.small t)), cells_length rows bytes, held.few)
+    omega (arith, ap (λ t. t.pins) held.tallied, pins_few (cells_in rows bytes) (λ t. cells_small rows bytes t (held.small t)), cells_length rows bytes, held.few)
 
 -- a pin below was taken
-module _ (rows : List ℕ) (s : ℕ) (begun bytes tally : List ℕ) (x wanted waiter : ℕ) (bytes₁ tally₁ : List ℕ) (r : ℕ) (below : x < s)
+module _ (rows : List ℕ) (s : ℕ) (begun bytes : List ℕ) (tally : Counts) (x wanted waiter : ℕ) (bytes₁ : List ℕ) (tally₁ : Counts) (r : ℕ) (below : x < s)
     (takes : Takes rows x wanted waiter bytes bytes₁ tally₁ r) where
   pub held_after : Held rows s begun bytes tally → Held rows s begun bytes₁ tally₁
   held_after held =
@@ -217,9 +215,9 @@ module _ (rows : List ℕ) (s p next class mark : ℕ)
   marked_large = omega (arith, mark_is, mark_large (code_or Only) p next)
 
 -- at the end the gate's byte is written
-module _ (rows : List ℕ) (s w waiter p₀ next₀ : ℕ) (entry begun tally₀ bytes tally : List ℕ) (at : Begun rows s w waiter entry p₀ next₀ begun tally₀) (held : Held rows s begun bytes tally)
+module _ (rows : List ℕ) (s w waiter p₀ next₀ : ℕ) (entry begun : List ℕ) (tally₀ : Counts) (bytes : List ℕ) (tally : Counts) (at : Begun rows s w waiter entry p₀ next₀ begun tally₀) (held : Held rows s begun bytes tally)
     (p next mark : ℕ) (cell : cell_in (inverts_in (word_in rows s)) mark ≡ kept (of_code p) next) (written : 8 ≤ mark) (fits : mark < 256)
-    (exit tally₁ : List ℕ) (left : exit ≡ set bytes s mark) (counted : tally₁ ≡ set tally 1 (get_or tally 1 0 + next)) (r : ℕ) where
+    (exit : List ℕ) (tally₁ : Counts) (left : exit ≡ set bytes s mark) (counted : tally₁ ≡ record tally { pins = tally.pins + next }) (r : ℕ) where
   cells_left : cells_in rows exit ≡ put (cells_in rows bytes) s (kept (of_code p) next)
   cells_left = ap (cells_in rows) left ∙ cells_set rows bytes s mark ∙ ap (put (cells_in rows bytes) s) cell
 
@@ -229,7 +227,7 @@ module _ (rows : List ℕ) (s w waiter p₀ next₀ : ℕ) (entry begun tally₀
       record {
         is = subst (λ cells. Ends rows (known_in entry) s w waiter (cells_in rows entry) cells r) (sym cells_left) is;
         tallied =
-            counted ∙ ap (λ t. set t 1 (get_or t 1 0 + next)) held.tallied
+            counted ∙ ap (λ (t : Counts). record t { pins = t.pins + next }) held.tallied
             ∙ tally_put (cells_in rows bytes) s (of_code p) next (gates_visited (cells_in rows bytes)) _ (rw (cells_length rows bytes) held.there)
             (rw (own_cell rows s bytes held.own) (omega (arith, visited_kept (of_code (get_or bytes s 0)) 0)))
             (rw (own_cell rows s bytes held.own) (omega (arith, next_of_byte_of (of_code (get_or bytes s 0)) 0)))

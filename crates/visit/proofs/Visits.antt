@@ -1,6 +1,7 @@
 -- The steps of a visit, as the code makes them. Assumes nothing.
 use Prim.Native.Nat.{ℕ, zero, suc, ◌+◌, ◌-◌, ◌/◌, ◌%◌, ◌≤◌, ◌<◌}
 use native.Mathlib.Omega.{arith}
+use native.Mathlib.Decide.{dec_lt}
 use native.Mathlib.Numerals.{add-one}
 use mathlib.Core.Path.{◌≡◌, refl, sym, ◌∙◌, ap}
 use mathlib.Core.Bool.{Bool, true, false, cond}
@@ -8,9 +9,9 @@ use mathlib.Core.List.{List}
 use mathlib.Core.Option.{Option, none, some}
 use lib.Dec.{ltb}
 use lib.ListN.{length, get_or, drop}
-use borrow.Author.Tests.{lt-ltb, ltb-true, ltb-false}
+use borrow.Author.Tests.{lt-ltb, le-ltb, ltb-true, ltb-false}
 use Rattle.kung.specs.Class.{Class, code, of_code}
-use Rattle.kung.specs.Operation.{Op, op_of, op_at, inverts, join, unit}
+use Rattle.kung.specs.Operation.{Op, op_of, op_at, inverts, invert_if, join, unit}
 use Rattle.kung.specs.Sets.{possible, wanted_for}
 use Rattle.kung.specs.Lookup.{joined_by}
 use Rattle.kung.proofs.Finite.{of_code_code}
@@ -20,17 +21,19 @@ use Rattle.rows.specs.Rows.{count_in, gate_in, inverts_in, word_in, row_kind, ro
 use Rattle.search.specs.Search.{Cell, kept, cell_at, put, possible_of, pins_left, only, Waiting, nobody, waits, Outcome, stopped, known, unfinished, checks, Driver, told, behind, told_or, driver_of, Ended, fetch, react, take_pin, take_pins, visit}
 use Rattle.search.proofs.Steps.{left_is, visit_gate, pins_end, pins_step}
 use Rattle.search.proofs.Same.{take_put}
-use Rattle.checks.specs.Codes.{waiting_of, ending_of, check_of}
+use Rattle.checks.specs.Codes.{waiting_of, code_or, ending_of, check_of}
 use Rattle.cells.specs.Codes.{begun_from}
 use Rattle.cells.specs.Cells.{cell_in, known_in, told_in}
-use Rattle.checks.proofs.Checks.{joins, ended, ended_by, goes_on, stops}
+use Rattle.checks.proofs.Checks.{joins, ended, ended_by, goes_on, stops, last_class}
 use Rattle.cells.proofs.Cells.{cell_new, cell_open, known_small, same_code, told_class, untold_between, untold_searched}
+use Rattle.cells.specs.declared.Counts.{Counts}
 use Rattle.visit.specs.Source.{signal_of, source_from}
 use Rattle.visit.specs.Codes.{told_of}
 use Rattle.visit.specs.Visits.{ended_of, Lends, Takes}
 use Rattle.visit.specs.Cells.{cells_in, Marked}
-use Rattle.visit.proofs.Sources.{source_gate, gate_operation, pins_length}
-use Rattle.visit.proofs.Cells.{driver_at}
+use Rattle.rows.proofs.Gates.{gate_operation, pins_length}
+use Rattle.visit.proofs.Sources.{source_gate}
+use Rattle.visit.proofs.Cells.{driver_at, told_or_lem}
 
 -- the waiting gate goes on with the number of a visit behind it, unless that is 8
 reacts : (e : Outcome) (after : List ℕ) (o : Op) (p : Class) (go_on : Class → List ℕ → Ended)
@@ -78,7 +81,7 @@ told_ends rows codes x w waiter cells class r told_is h joined n less = go (driv
     go (behind p next) e = absurd (omega arith)
 
 -- the byte says it
-pub takes_told : (rows : List ℕ) (x w waiter : ℕ) (bytes tally : List ℕ) (r : ℕ) → Lends rows x bytes tally → told_in (get_or bytes x 0) < 8
+pub takes_told : (rows : List ℕ) (x w waiter : ℕ) (bytes : List ℕ) (tally : Counts) (r : ℕ) → Lends rows x bytes tally → told_in (get_or bytes x 0) < 8
     → r ≡ code (joined_by waiter (of_code (get_or bytes x 0))) → Takes rows x w waiter bytes bytes tally r
 takes_told rows x w waiter bytes tally r lends told_is joined =
     let b = get_or bytes x 0 in
@@ -115,6 +118,13 @@ rest_first rows codes s w waiter p next cells = record { is = λ n h. refl }
 pub record Arrived (rows known : List ℕ) (s w waiter : ℕ) (entry : List ℕ) (p₀ next₀ : ℕ) (cells₀ : List ℕ) : Type 0 where
   is : (n : ℕ) → s ≤ n → left_of rows known s w waiter n p₀ next₀ cells₀ ≡ whole_of rows known s w waiter (suc n) entry
 
+-- the possible set of a gate whose pins are counted
+pub counted_set : (rows : List ℕ) (s : ℕ) (p : Class) (next : ℕ)
+    → possible_of (row_kind rows s) p (drop next (row_pins rows s))
+    ≡ possible (op_of (row_kind rows s)) (inverts (row_kind rows s)) p (ltb next (count_in (word_in rows s)))
+unfolding possible_of
+counted_set rows s p next = rw (left_is next (row_pins rows s), pins_length rows s)
+
 -- on arrival
 module _ (rows : List ℕ) (s w waiter : ℕ) (bytes : List ℕ) (untold : told_in (get_or bytes s 0) ≡ 8) (marked : Marked rows s (get_or bytes s 0)) where
   abbrev Byte : ℕ
@@ -125,6 +135,32 @@ module _ (rows : List ℕ) (s w waiter : ℕ) (bytes : List ℕ) (untold : told_
 
   searched : 8 ≤ get_or (known_in bytes) s 0
   searched = untold_searched bytes s untold
+
+  begun_untold : 16 ≤ Byte → told_of (driver_of (gate (row_kind rows s) (row_pins rows s)) (kept (of_code Byte) (Byte / 8 - 2))) ≡ 8
+  unfolding signal_of driver_of
+  begun_untold old =
+      let cell = cell_open (inverts_in (word_in rows s)) Byte old (untold_between Byte untold).1 in
+      sym (λ i. told_of (driver_of (signal_of rows s (known_small Byte (untold_between Byte untold).0 i)) (cell i))) ∙ sym marked ∙ untold
+
+  -- no gate is left unfinished that has taken all its pins
+  pub within : Byte / 8 - 2 ≤ count_in (word_in rows s)
+  unfolding driver_of
+  within = go (dec_lt Byte 16) (dec_lt (count_in (word_in rows s)) (Byte / 8 - 2))
+    where
+      go : Dec (Byte < 16) → Dec (count_in (word_in rows s) < Byte / 8 - 2) → Byte / 8 - 2 ≤ count_in (word_in rows s)
+      go (yes new) d = omega arith
+      go (no old) (no inside) = omega arith
+      go (no old) (yes past) =
+          let d = row_kind rows s in
+          let p = of_code Byte in
+          let none : ltb (Byte / 8 - 2) (count_in (word_in rows s)) ≡ false = le-ltb (Byte / 8 - 2) (count_in (word_in rows s)) (omega arith) in
+          let known = counted_set rows s p (Byte / 8 - 2) ∙ ap (possible (op_of d) (inverts d) p) none in
+          absurd (omega (
+            arith,
+            sym (told_or_lem (only (possible_of d p (drop (Byte / 8 - 2) (row_pins rows s)))) p (Byte / 8 - 2)) ∙ begun_untold (omega arith),
+            ap (λ m. code_or (only m)) known ∙ last_class d p 0 0,
+            code_lt (invert_if (inverts d) p),
+          ))
 
   driver_is : driver_of (source_from rows (known_in bytes) s) (cell_at (cells_in rows bytes) s) ≡ behind (of_code Begun) (Begun / 8 - 2)
   unfolding begun_from signal_of driver_of
@@ -152,10 +188,7 @@ module _ (rows : List ℕ) (s w waiter : ℕ) (bytes : List ℕ) (untold : told_
           ∙ (λ i. behind (sym (same_code (16 + code u) u (omega arith)) i) (sym pin i))
       go false e =
           let cell = cell_open Inverts₁ Byte (ltb-false Byte 16 e) (untold_between Byte untold).1 in
-          let eight : told_of (driver_of (gate (row_kind rows s) (row_pins rows s)) (kept (of_code Byte) (Byte / 8 - 2))) ≡ 8 =
-          sym (λ i. told_of (driver_of (signal_of rows s (known_small Byte (untold_between Byte untold).0 i)) (cell i))) ∙ sym marked ∙ untold
-          in
-          ap (driver_of (gate (row_kind rows s) (row_pins rows s))) cell ∙ seen (only _) _ _ eight
+          ap (driver_of (gate (row_kind rows s) (row_pins rows s))) cell ∙ seen (only _) _ _ (begun_untold (ltb-false Byte 16 e))
 
   pub arrived : (p next : ℕ) → p ≡ Begun % 8 → next ≡ Begun / 8 - 2 → (cells : List ℕ) → cells ≡ put (cells_in rows bytes) s (kept (of_code p) next)
       → Arrived rows (known_in bytes) s w waiter (cells_in rows bytes) p next cells
@@ -170,13 +203,6 @@ module _ (rows : List ℕ) (s w waiter : ℕ) (bytes : List ℕ) (untold : told_
             ∙ visit_gate (source_from rows (known_in bytes)) n s (row_kind rows s) (row_pins rows s) (of_code Begun) (Begun / 8 - 2) w (waiting_of waiter)
             (cells_in rows bytes) (source_gate rows (known_in bytes) s searched)));
       }
-
--- the possible set of a gate whose pins are counted
-pub counted_set : (rows : List ℕ) (s : ℕ) (p : Class) (next : ℕ)
-    → possible_of (row_kind rows s) p (drop next (row_pins rows s))
-    ≡ possible (op_of (row_kind rows s)) (inverts (row_kind rows s)) p (ltb next (count_in (word_in rows s)))
-unfolding possible_of
-counted_set rows s p next = rw (left_is next (row_pins rows s), pins_length rows s)
 
 module _ (rows known : List ℕ) (s w waiter p₀ next₀ : ℕ) (cells₀ : List ℕ) (p next : ℕ) (cells : List ℕ)
     (rest : Rest rows known s w waiter p₀ next₀ cells₀ p next cells) where

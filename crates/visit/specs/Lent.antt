@@ -1,8 +1,7 @@
 -- What a search is lent.
-use Rattle.std.specs.Prelude.{ℕ, ◌≤◌, ◌<◌, ◌≡◌, List, ◌++◌, length, get_or, replicate}
+use Rattle.std.specs.Prelude.{ℕ, ◌≤◌, ◌<◌, List, ◌++◌, length, get_or, replicate}
 use Rattle.kung.specs.Class.{Class, code}
 use Rattle.kung.specs.Tables.{tab}
-use Rattle.kung.specs.Lookup.{search_table}
 use Rattle.rows.specs.Lent.{GateRow}
 use Rattle.visit.specs.Cells.{Afresh}
 
@@ -14,9 +13,8 @@ GatesOnly rows known = (s : ℕ) → 8 ≤ get_or known s 0 → GateRow rows s
 abbrev pub inputs_known : (inputs gates : ℕ) → (ℕ → Class) → List ℕ
 inputs_known inputs gates v = tab (λ i. code (v i)) 0 inputs ++ replicate gates 8
 
--- the table, and a decoded card
-pub record SearchReady (table rows known : List ℕ) : Type 0 where
-  pub table_is : table ≡ search_table
+-- a decoded card, of which some signals' classes are known
+pub record SearchReady (rows known : List ℕ) : Type 0 where
   pub gates_only : GatesOnly rows known
   pub few_signals : length known ≤ 2304
   pub afresh : Afresh known

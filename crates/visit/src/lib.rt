@@ -15,54 +15,25 @@ ghost use Rattle.visit.specs.Lent.{SearchReady, InputsGiven};
 ghost use Rattle.visit.specs.Codes.{verdict_from};
 ghost use Rattle.visit.specs.Visits.{Lends, Takes};
 
-use cells::{arrive, is_told, known_mark, leave, mark_of, open_mark, reset};
+use cells::{Counts, arrive, is_told, known_mark, leave, mark_of, open_mark, reset};
 use checks::{NOBODY, STOPPED, check_known, check_set, class_of, has_class};
 use kung::{only_class, swapped};
 use lookup::{joined_by, possible_set, preimage_of, reach_of, stop_bits};
 use rows::{pin_of, word_of};
 
-#[derive(Drop)]
+// No Option: a hazard is a verdict of its own, and not a class that is missing.
+#[derive(Clone, Copy, Debug, PartialEq, Eq)]
 pub enum Verdict {
     Clean { class: u8 },
     Hazardous,
 }
 
 // The answer of a search.
-#[derive(Drop)]
+#[derive(Clone, Copy, Debug, PartialEq, Eq)]
 pub struct Found {
     pub verdict: Verdict,
     pub gates: usize,
     pub pins: usize,
-}
-
-// Gates visited and pins taken.
-#[derive(Drop)]
-pub struct Counts {
-    pub gates: usize,
-    pub pins: usize,
-}
-
-// A gate's operation, and 2 more where it inverts.
-fn gate_in(word: u16) -> usize
-    ensures { result ≡ gate_in word }
-{
-    (word % 4) as usize
-}
-
-// Its number of pins.
-fn count_in(word: u16) -> usize
-    requires { count_in word ≤ 8 }
-    ensures { result ≡ count_in word }
-{
-    (word / 4) as usize
-}
-
-// Pin `next` of signal s's gate.
-fn pin_at(rows: &[u16], s: usize, next: usize) -> usize
-    requires { (9 * s + 9 ≤ length rows.now) × (next < 9) }
-    ensures { result ≡ pin_in rows.now s next }
-{
-    pin_of(rows, s, next) as usize
 }
 
 // A gate that waits with p, as a number below NOBODY.
@@ -79,81 +50,74 @@ fn goal_of(left: bool, reach: usize, want: usize) -> usize
     if left { reach } else { want }
 }
 
-// A visit of signal s, of whose class nothing is told: its gate's pins are taken in turn, until none is left or the checks end the visit.
+// A visit of signal s, of whose class nothing is told: its gate's pins are taken in turn, until none is left or the checks end the visit. Rows, cells
+// and tally are parameters and no struct, through which each look at a byte would take one step more.
 #[cycle(take_visit)]
 fn visit(
-    table: &[u8; 4888],
     rows: &[u16],
     cells: &mut [u8],
-    tally: &mut [u16; 2],
+    tally: &mut Counts,
     s: usize,
     wanted: usize,
     waiter: usize,
 ) -> usize
-    requires search_ready { SearchReady table.now rows.now (known_in cells.old) }
+    requires search_ready { SearchReady rows.now (known_in cells.old) }
     requires lends { Lends rows.now s cells.old tally.old × (told_in (get_or cells.old s 0) ≡ 8) × (waiter < 17) × (wanted < 256) }
     ensures { Takes rows.now s wanted waiter cells.old cells.new tally.new result }
 {
+    // the gate is its operation, and 2 more where it inverts
     let word = word_of(rows, s);
-    let gate = gate_in(word);
-    let count = count_in(word);
+    let gate = (word % 4) as usize;
+    let inverted = gate / 2 == 1;
+    let count = (word / 4) as usize;
     let begun = arrive(cells, tally, s, gate);
     let mut p = begun.p;
-    let mut next = begun.next;
-    let want = swapped(gate / 2 == 1, wanted);
-    let reach = reach_of(table, gate, want);
-    let stop = stop_bits(table, waiter, gate, reach);
-    while next < count {
+    let want = swapped(inverted, wanted);
+    let reach = reach_of(gate, want);
+    let stop = stop_bits(waiter, gate, reach);
+    for next in begun.next..count {
         if has_class(stop, p) {
-            let set = possible_set(table, gate, gate / 2 == 1, p);
+            let set = possible_set(gate, inverted, p);
             let class = only_class(set);
-            let answer = check_set(table, set, class, wanted, waiter);
+            let answer = check_set(set, class, wanted, waiter);
             leave(cells, tally, s, mark_of(class, p, next), next);
             return answer;
         }
-        let x = pin_at(rows, s, next);
-        next += 1;
-        let goal = goal_of(next < count, reach, want);
-        let ending = take(table, rows, cells, tally, x, waiter_of(gate, p), goal);
+        let x = pin_of(rows, s, next) as usize;
+        let goal = goal_of(next + 1 < count, reach, want);
+        let ending = take(rows, cells, tally, x, waiter_of(gate, p), goal);
         if STOPPED <= ending {
-            leave(cells, tally, s, open_mark(p, next), next);
+            leave(cells, tally, s, open_mark(p, next + 1), next + 1);
             return STOPPED;
         }
         p = ending;
     }
     let class = class_of(gate, p);
-    let answer = check_known(table, class, wanted, waiter);
-    leave(cells, tally, s, known_mark(class, next), next);
+    let answer = check_known(class, wanted, waiter);
+    leave(cells, tally, s, known_mark(class, count), count);
     answer
 }
 
 // A pin on signal x is taken: the gate behind it is visited, unless its class is told.
 #[cycle(take_visit)]
 fn take(
-    table: &[u8; 4888],
     rows: &[u16],
     cells: &mut [u8],
-    tally: &mut [u16; 2],
+    tally: &mut Counts,
     x: usize,
     waiter: usize,
     goal: usize,
 ) -> usize
-    requires search_ready { SearchReady table.now rows.now (known_in cells.old) }
+    requires search_ready { SearchReady rows.now (known_in cells.old) }
     requires lends { Lends rows.now x cells.old tally.old × (waiter < 16) × (goal < 256) }
     ensures { Takes rows.now x (preimage (op_at (waiter / 8)) (of_code waiter) goal) waiter cells.old cells.new tally.new result }
 {
     let byte = cells[x];
     if is_told(byte) {
-        return joined_by(table, waiter, byte as usize);
+        return joined_by(waiter, byte as usize);
     }
-    let wanted = preimage_of(table, waiter, goal);
-    visit(table, rows, cells, tally, x, wanted, waiter)
-}
-
-fn wide(x: u16) -> usize
-    ensures { result ≡ x }
-{
-    x as usize
+    let wanted = preimage_of(waiter, goal);
+    visit(rows, cells, tally, x, wanted, waiter)
 }
 
 // A class that is known without a visit, judged against the wanted set.
@@ -162,7 +126,7 @@ fn judge(wanted: usize, class: u8) -> Verdict
     ensures { result ≡ verdict_code (judged wanted (of_code class)) }
 {
     if has_class(wanted, class as usize) {
-        Verdict::Clean { class: class }
+        Verdict::Clean { class }
     } else {
         Verdict::Hazardous
     }
@@ -182,15 +146,8 @@ fn verdict_of(ending: usize) -> Verdict
 
 // The search of signal s. Each call starts afresh, and leaves the lent bytes as they were. The signals below `first` are inputs, whose bytes no
 // visit writes.
-pub fn find(
-    table: &[u8; 4888],
-    rows: &[u16],
-    known: &mut [u8],
-    first: usize,
-    wanted: u8,
-    s: usize,
-) -> Found
-    requires { SearchReady table.now rows.now known.old × InputsGiven first known.old × (s < length known.old) }
+pub fn find(rows: &[u16], known: &mut [u8], first: usize, wanted: u8, s: usize) -> Found
+    requires { SearchReady rows.now known.old × InputsGiven first known.old × (s < length known.old) }
     ensures found { result ≡ found_of (search (source_from rows.now known.old) wanted s) }
     ensures known { known.new ≡ known.old }
 {
@@ -202,12 +159,12 @@ pub fn find(
             pins: 0,
         };
     }
-    let mut tally: [u16; 2] = [0; 2];
-    let ending = visit(table, rows, known, &mut tally, s, wanted as usize, NOBODY);
+    let mut tally = Counts { gates: 0, pins: 0 };
+    let ending = visit(rows, known, &mut tally, s, wanted as usize, NOBODY);
     reset(&mut known[first..s + 1]);
     Found {
         verdict: verdict_of(ending),
-        gates: wide(tally[0]),
-        pins: wide(tally[1]),
+        gates: tally.gates,
+        pins: tally.pins,
     }
 }

@@ -8,6 +8,7 @@ use mathlib.Core.Bool.{Bool, true, false, cond}
 use borrow.Author.Tests.{lt-ltb, le-ltb, eq-eqb, ne_eqb}
 use lib.Dec.{eqb, ltb}
 use lib.ListN.{get_or, replicate}
+use Rattle.std.specs.Prelude.{Ok}
 use Rattle.kung.specs.Class.{Class, of_code, clean, input_class, same}
 use Rattle.kung.specs.Sets.{set_of, has, clean_set}
 use Rattle.kung.specs.Members.{insert}
@@ -20,7 +21,6 @@ use Rattle.netlist.specs.Netlist.{outputs_of}
 use Rattle.netlist.proofs.Accepted.{formed}
 use Rattle.changes.specs.declared.Layout.{Layout}
 use Rattle.changes.specs.declared.Task.{Task}
-use Rattle.changes.specs.declared.Listed.TheVariants.{Accepted}
 use Rattle.changes.specs.Changes.{version_of, width_of, layout_in, bit_in, bit_at, class_at, declared_class_at}
 use Rattle.changes.specs.Refusals.{list_checked}
 use Rattle.changes.proofs.Accepted.{listed, laid}
@@ -87,7 +87,7 @@ by_version true outputs o declared clean h = rw (lt-ltb o (8 * width_of outputs)
 by_version false outputs o declared clean h = rw (le-ltb o (8 * width_of 0) (omega arith))
 
 -- of an accepted list they are the outputs' wanted sets
-pub sets_in : {task : Task} (n l : List ℕ) → list_checked n l ≡ Accepted task → (t : ℕ) (sets : List ℕ) → sets ≡ sets_at l task.layout t
+pub sets_in : {task : Task} (n l : List ℕ) → list_checked n l ≡ Ok task → (t : ℕ) (sets : List ℕ) → sets ≡ sets_at l task.layout t
     → (o : ℕ) → o < task.shape.outputs → get_or sets o 0 ≡ wanted_in n l t o
 unfolding sets_at wanted_at
 sets_in {task} n l accepted t sets e o h =

@@ -19,10 +19,8 @@ fn declared_set(list: &[u8], layout: Layout, change: usize, output: usize) -> u8
     requires { (layout.width ≤ 32) × (layout.row ≤ 8) × (change ≤ 1000) × (output ≤ 64) }
     ensures { result ≡ set_of (same (declared_class_at list.now layout change output)) }
 {
-    let width = layout.width;
-    let row = layout.row;
-    let starts = 11 + change * (2 * width + 2 * row) + 2 * width;
-    let ends = starts + row;
+    let starts = layout.change_at(change) + 2 * layout.width;
+    let ends = starts + layout.row;
     let byte = output / 8;
     let class = inputs::class_of_bits(
         byte_at(list, starts + byte),
@@ -50,6 +48,7 @@ pub fn wanted_sets(list: &[u8], layout: Layout, change: usize) -> [u8; 64]
     ensures { result ≡ sets_at list.now layout change }
 {
     let mut sets = [CLEAN_SET; 64];
+    // not over the items of `sets[..8 * layout.row]`: tried, the proof did not close, for the goals show no value of a local array's part
     for output in 0..8 * layout.row {
         sets[output] = declared_set(list, layout, change, output);
     }

@@ -3,9 +3,11 @@ use Prim.Native.Nat.{ℕ, zero, suc, ◌+◌, ◌*◌, ◌≤◌, ◌<◌}
 use native.Mathlib.Omega.{arith}
 use native.Mathlib.Nat.{add-zero}
 use mathlib.Core.Path.{◌≡◌, refl, sym, ◌∙◌, ap}
-use mathlib.Core.List.{List}
+use mathlib.Core.List.{List, [], ◌∷◌}
 use mathlib.Core.Bool.{Bool, true, false, ◌||◌}
-use borrow.Author.Tests.{lt-ltb, le-ltb, ltb-false, eq-eqb, ne_eqb}
+use lib.Pointwise.{pointwise}
+use Rattle.std.proofs.Math.Bool.{and-true, and_assoc}
+use borrow.Author.Tests.{lt-ltb, le-ltb, ltb-false}
 use lib.Dec.{eqb, ltb}
 use lib.ListN.{length, get_or, get_or-eq_default}
 use Rattle.words.specs.Words.{byte_at, word_at, long_at, words_at, marked, outside}
@@ -55,16 +57,12 @@ within least most n e = go (ltb n least) refl e
     go true d h = let z : ◌≡◌ {A = ℕ} 0 1 = cc in absurd (omega arith)
     go false d h = (ltb-false n least d, ltb-false most n h)
 
--- the three letters, one after the other
-module _ (s : List ℕ) (a b c : ℕ) where
-  pub marked_first : (byte_at s 0 ≡ a → ⊥) → marked s a b c ≡ false
-  unfolding marked
-  marked_first h = rw (ne_eqb (byte_at s 0) a h)
-
-  pub marked_second : byte_at s 0 ≡ a → (byte_at s 1 ≡ b → ⊥) → marked s a b c ≡ false
-  unfolding marked
-  marked_second e h = rw (eq-eqb (byte_at s 0) a e, ne_eqb (byte_at s 1) b h)
-
-  pub marked_third : byte_at s 0 ≡ a → byte_at s 1 ≡ b → marked s a b c ≡ eqb (byte_at s 2) c
-  unfolding marked
-  marked_third e d = rw (eq-eqb (byte_at s 0) a e, eq-eqb (byte_at s 1) b d)
+-- a mark compared at once
+pub marked_by : (s mark : List ℕ) {a b c : ℕ} → a ≡ byte_at s 0 → b ≡ byte_at s 1 → c ≡ byte_at s 2 → length mark ≡ 3
+    → pointwise eqb (a ∷ b ∷ c ∷ []) mark ≡ marked s (byte_at mark 0) (byte_at mark 1) (byte_at mark 2)
+unfolding marked
+marked_by s (x ∷ y ∷ z ∷ []) p q r h = rw (p, q, r, and-true, ← and_assoc) refl
+marked_by s [] p q r h = absurd (omega arith)
+marked_by s (x ∷ []) p q r h = absurd (omega arith)
+marked_by s (x ∷ y ∷ []) p q r h = absurd (omega arith)
+marked_by s (x ∷ y ∷ z ∷ w ∷ m) p q r h = absurd (omega arith)

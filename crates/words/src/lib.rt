@@ -8,7 +8,7 @@ ghost use Rattle.words.specs.Words.{byte_at, word_at, long_at, marked, outside};
 pub fn byte_at(s: &[u8], at: usize) -> u8
     ensures { result ≡ byte_at s.now at }
 {
-    if at < s.len() { s[at] } else { 0 }
+    s.get(at).copied().unwrap_or(0)
 }
 
 // The two bytes at a place, low byte first; bytes past the end are 0.
@@ -16,7 +16,7 @@ pub fn word_at(s: &[u8], at: usize) -> u16
     ensures { result ≡ word_at s.now at }
 {
     if at < s.len() {
-        byte_at(s, at) as u16 + 256 * byte_at(s, at + 1) as u16
+        u16::from_le_bytes([byte_at(s, at), byte_at(s, at + 1)])
     } else {
         0
     }
@@ -27,7 +27,12 @@ pub fn long_at(s: &[u8], at: usize) -> u32
     ensures { result ≡ long_at s.now at }
 {
     if at < s.len() {
-        word_at(s, at) as u32 + 65536 * word_at(s, at + 2) as u32
+        u32::from_le_bytes([
+            byte_at(s, at),
+            byte_at(s, at + 1),
+            byte_at(s, at + 2),
+            byte_at(s, at + 3),
+        ])
     } else {
         0
     }
@@ -38,25 +43,19 @@ pub fn word_in(s: &[u8], at: usize) -> u16
     requires { at + 2 ≤ length s.now }
     ensures { result ≡ word_at s.now at }
 {
-    s[at] as u16 + 256 * (s[at + 1] as u16)
+    u16::from_le_bytes([s[at], s[at + 1]])
 }
 
-// Whether the bytes begin with three letters.
-pub fn is_marked(s: &[u8], a: u8, b: u8, c: u8) -> bool
-    ensures { result ≡ marked s.now a b c }
+// Whether the bytes begin with the three of a mark. Not by `starts_with`: where fewer stand there, the others count as 0.
+pub fn is_marked(s: &[u8], mark: &[u8; 3]) -> bool
+    ensures { result ≡ marked s.now (byte_at mark.now 0) (byte_at mark.now 1) (byte_at mark.now 2) }
 {
-    if byte_at(s, 0) != a {
-        return false;
-    }
-    if byte_at(s, 1) != b {
-        return false;
-    }
-    byte_at(s, 2) == c
+    [byte_at(s, 0), byte_at(s, 1), byte_at(s, 2)] == *mark
 }
 
 // Whether a number is out of its range.
 pub fn is_outside(least: usize, most: usize, n: usize) -> bool
     ensures { result ≡ outside least most n }
 {
-    if n < least { true } else { most < n }
+    n < least || most < n
 }

@@ -1,28 +1,34 @@
-use Rattle.std.proofs.Common.{ℕ, ◌+◌, ◌≤◌, sym, ◌∙◌, arith}
+use Rattle.std.proofs.Common.{ℕ, ◌+◌, ◌^◌, ◌<◌, ◌≤◌, length, sym, ◌∙◌, arith}
 use Rattle.netlist.proofs.Accepted.{formed}
 use Rattle.changes.proofs.Accepted.{listed}
+use Rattle.report.specs.declared.Text.{Text}
+use Rattle.report.specs.Text.{counts_line, refusal_line}
+use Rattle.report.specs.Appended.{Fits}
 use Rattle.report.proofs.Lengths.{counts_length, refusal_length}
 use Rattle.lines.specs.Texts.{first_line}
 use Rattle.lines.proofs.put_line.Goals as goal
 
--- `lines::put_line` meets its contract: the line of the refusal, or of the counts. Assumes nothing.
--- a text of at most 64 bytes has room
-fits : {text buffer : ℕ} → text ≤ 64 → 64 ≤ buffer → 0 + text ≤ buffer
-fits few room = omega arith
+-- the line of the refusal, or of the counts: at most 64 bytes
+refusal_fits : {text : Text} (number place : ℕ) → number < 2 ^ 8 → place < 2 ^ 64 → text.written + 64 ≤ length text.bytes.now → Fits text (refusal_line number place)
+refusal_fits number place n p room = record { room = omega (arith, refusal_length number place n p) }
 
 pub put_refusal-requires : goal.put_refusal-requires
-put_refusal-requires c = fits (refusal_length _ _ (omega arith) (omega arith)) c.requires
+put_refusal-requires c = refusal_fits _ _ (omega arith) (omega arith) c.requires
+
+counts_fits : {text : Text} (inputs gates outputs changes : ℕ) → inputs < 10000 → gates < 10000 → outputs < 10000 → changes < 10000
+    → text.written + 64 ≤ length text.bytes.now → Fits text (counts_line inputs gates outputs changes)
+counts_fits inputs gates outputs changes i g o t room = record { room = omega (arith, counts_length inputs gates outputs changes i g o t) }
 
 pub put_counts-requires : goal.put_counts-requires
 put_counts-requires c =
-    let l = listed _ _ (sym c.check.ensures ∙ c.in-Accepted.is) in
+    let l = listed _ _ (sym c.check.ensures ∙ c.in-Ok.is) in
     let f = formed _ l.netlist_accepted in
-    fits (counts_length _ _ _ _ (omega arith) (omega arith) (omega arith) (omega arith)) c.requires
+    counts_fits _ _ _ _ (omega arith) (omega arith) (omega arith) (omega arith) c.requires
 
-pub returns-in-Refused : goal.returns-in-Refused
+pub returns-in-Err : goal.returns-in-Err
 unfolding first_line
-returns-in-Refused c = rw (← c.in-Refused.ensures) c.put_refusal.ensures
+returns-in-Err c = rw (← c.check.ensures, c.in-Err.is) (rw (c.number.ensures, c.place.ensures) at c.put_refusal.ensures)
 
-pub returns-in-Accepted : goal.returns-in-Accepted
+pub returns-in-Ok : goal.returns-in-Ok
 unfolding first_line
-returns-in-Accepted c = rw (← c.in-Accepted.ensures) c.put_counts.ensures
+returns-in-Ok c = rw (← c.check.ensures, c.in-Ok.is) c.put_counts.ensures

@@ -1,6 +1,6 @@
-use mathlib.Core.Path.{◌∙◌}
+use mathlib.Core.Path.{◌∙◌, ap}
 use lib.ListN.{get_or}
-use Prim.Native.Nat.{◌+◌, ◌*◌}
+use Prim.Native.Nat.{◌+◌, ◌*◌, ◌%◌}
 use Rattle.lookup.proofs.Gates.{gate_at_lem}
 use borrow.Author.Rules.{rules}
 use Rattle.lookup.proofs.gate_set.Goals as goal
@@ -9,5 +9,5 @@ use Rattle.lookup.proofs.gate_set.Goals as goal
 pub returns : goal.returns
 returns c =
     let a = c.args in
-    (λ i. get_or (c.requires i) (c.wide.ensures i * 256 + c.wide-2.ensures i) 0)
+    ap (λ t. get_or t (a.gate % 4 * 256 + a.set) 0) c.gate_table.ensures
     ∙ gate_at_lem a.gate a.set (search rules)

@@ -6,5 +6,5 @@ use Rattle.lookup.proofs.image_of.Goals as goal
 -- `lookup::image_of` meets its contract: the table has the image at its place. Assumes nothing.
 pub returns : goal.returns
 returns c =
-    ap₂ (λ t k. get_or t k 0) c.requires.0 c.place.ensures
-    ∙ image_at c.args.operation c.args.p c.args.set c.requires.1
+    ap₂ (λ t k. get_or t k 0) c.search.ensures c.place.ensures
+    ∙ image_at c.args.operation c.args.p c.args.set c.requires

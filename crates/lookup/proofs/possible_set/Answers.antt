@@ -9,5 +9,5 @@ use Rattle.lookup.proofs.possible_set.Goals as goal
 pub returns : goal.returns
 returns c =
     let a = c.args in
-    c.swapped.ensures ∙ ap (swap_if a.inverted) (c.wide.ensures ∙ c.image_of.ensures)
+    c.swapped.ensures ∙ ap (swap_if a.inverted) c.image_of.ensures
     ∙ possible_left (op_at a.operation) a.inverted (of_code a.p)

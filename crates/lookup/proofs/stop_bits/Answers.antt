@@ -1,7 +1,6 @@
 use mathlib.Core.Path.{◌∙◌, ap}
-use Prim.Native.Nat.{◌+◌, ◌-◌, ◌*◌}
+use Prim.Native.Nat.{◌-◌}
 use lib.Bits.{bit_or}
-use lib.ListN.{get_or}
 use Rattle.lookup.proofs.Lookups.{stop_at}
 use Rattle.lookup.proofs.stop_bits.Goals as goal
 
@@ -9,5 +8,5 @@ use Rattle.lookup.proofs.stop_bits.Goals as goal
 pub returns : goal.returns
 returns c =
     let a = c.args in
-    ap (bit_or (255 - a.reach)) (c.number_at.ensures ∙ ap (λ t. get_or t (4096 + 136 + a.waiter * 4 + a.gate) 0) c.requires.0)
-    ∙ stop_at a.waiter a.gate a.reach c.requires.1 c.requires.2 c.requires.3
+    ap (bit_or (255 - a.reach)) c.number_at.ensures
+    ∙ stop_at a.waiter a.gate a.reach c.requires.0 c.requires.1 c.requires.2

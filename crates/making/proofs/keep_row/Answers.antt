@@ -1,9 +1,6 @@
-use Prim.Native.Nat.{◌+◌, ◌*◌}
-use native.Mathlib.Omega.{arith}
-use mathlib.Core.Path.{◌≡◌, sym}
-use mathlib.Core.List.{[], ◌∷◌}
-use lib.ListN.{length, length-append}
-use Rattle.making.proofs.Making.{put_out, put_more}
+use Rattle.std.proofs.Common.{◌≡◌, ◌+◌, ◌-◌, ◌*◌, [], ◌∷◌, sym, length, arith, length-append}
+use Rattle.std.proofs.lemmas.Slice.{put_mid-paste}
+use Rattle.making.proofs.Making.{put_out, put_more, paste_end}
 use Rattle.making.proofs.keep_row.Goals.{Start}
 use Rattle.making.proofs.keep_row.Goals as goal
 
@@ -17,5 +14,8 @@ returns-then-rows-base c = let a = c.args in sym (put_out a.rows.now (9 * a.sign
 pub returns : goal.returns
 returns c =
     let a = c.args in
-    let e : 9 * a.signal + 8 ≡ 9 * a.signal + length a.row = omega (arith, long (goal.at.returns c).Start) in
-    rw (c.put_pins.ensures, e) (put_more a.rows.now (9 * a.signal) a.row a.word (omega (arith, long (goal.at.returns c).Start)))
+    let eight = long (goal.at.returns c).Start in
+    let e : 9 * a.signal + 8 ≡ 9 * a.signal + length a.row = omega (arith, eight) in
+    let pins = paste_end a.rows.now (9 * a.signal) a.row 8 _ (omega (arith, eight)) (sym eight)
+    (put_mid-paste (9 * a.signal) (9 * a.signal + 8 - 9 * a.signal) a.rows.now _ a.row 8 c.copy_from_slice.ensures.after (omega arith) (sym eight)) in
+    rw (pins, e) (put_more a.rows.now (9 * a.signal) a.row a.word (omega (arith, eight)))

@@ -13,37 +13,9 @@ use borrow.Author.Rules.{rules}
 use Rattle.outputs.proofs.search_outputs.Goals.{After-find-found, At-loop-output}
 use Rattle.outputs.proofs.search_outputs.Goals as goal
 
--- the bytes keep their number
-kept : (c : At-loop-output) → length c.loop-output.buffer ≡ length c.args.buffer.now
-kept c = ap length c.loop-output.invariant.5 ∙ written_kept _ _ _ _ (omega (arith, c.requires.enough))
-
-pub overflow_add-signals : goal.overflow_add-signals
-overflow_add-signals c = let p = c.requires in omega (arith, p.all_known, p.ready.few_signals)
-
 pub loop-output-init : goal.loop-output-init
 unfolding sum_below
 loop-output-init c = (search rules, refl, refl, search rules, search rules, written_none _ _ _, refl)
-
-pub output_of-signal-requires : goal.output_of-signal-requires
-output_of-signal-requires c = omega (arith, c.requires.listed, c.loop-output-test.true)
-
-pub bounds-wanted-output : goal.bounds-wanted-output
-bounds-wanted-output c = omega (arith, c.requires.outputs_high, c.loop-output-test.true)
-
-pub find-found-requires : goal.find-found-requires
-find-found-requires c =
-    let a = c.args in
-    let p = c.requires in
-    let same = c.loop-output.invariant.6 in
-    let below = p.output_below c.loop-output.output c.loop-output-test.true in (
-      subst (SearchReady a.table.now a.rows.now) (sym same) p.ready,
-      subst (InputsGiven a.shape.inputs) (sym same) p.given,
-      omega (arith, c.output_of-signal.ensures, ap length same),
-    )
-
-pub bounds-buffer-output : goal.bounds-buffer-output
-bounds-buffer-output c =
-    omega (arith, kept (goal.at.bounds-buffer-output c).At-loop-output, c.requires.enough)
 
 -- what is found, by what is known at first
 found : (c : After-find-found) →
@@ -84,8 +56,3 @@ loop-output-preserved c =
       found_byte_lem _ _ w _ _ _ at _ (found (goal.at.loop-output-preserved c).After-find-found) _ _ c.loop-output.invariant.5 (omega (arith, c.requires.enough)) _ c.byte_of.ensures,
       c.find-found.ensures.known ∙ c.loop-output.invariant.6,
     )
-
-pub returns : goal.returns
-returns c =
-    let e : c.loop-output.output ≡ c.args.shape.outputs = search rules in
-    rw (← e) (record { gates = c.loop-output.invariant.1; pins = c.loop-output.invariant.2; bytes = c.loop-output.invariant.5; known = c.loop-output.invariant.6 })

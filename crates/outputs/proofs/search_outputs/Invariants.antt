@@ -11,6 +11,3 @@ invariant-loop-output l =
     (l.output ≤ l.output-end) × (l.gates ≡ sum_from (λ a. a.gates) l.rows l.initial.known l.wanted l.signals l.output) × (l.pins ≡ sum_from (λ a. a.pins) l.rows l.initial.known l.wanted l.signals l.output)
     × (l.gates ≤ 18432 * l.output) × (l.pins ≤ 18432 * l.output) × (l.buffer ≡ written l.initial.buffer 0 (byte_from l.rows l.initial.known l.wanted l.signals) l.output)
     × (l.known ≡ l.initial.known)
-
-abbrev pub decreases-loop-output : goal.decreases-loop-output
-decreases-loop-output l = l.output-end - l.output

@@ -1,22 +1,13 @@
-use native.Mathlib.Omega.{arith}
-use Rattle.making.proofs.Making.{byte_low}
-use Rattle.records.specs.Meaning.{meaning_word}
-use borrow.Author.Rules.{rules}
+use mathlib.Core.Path.{◌∙◌}
+use Rattle.kung.specs.Rule.{kind_of}
+use Rattle.kung.specs.Tables.{tab}
+use Rattle.words.specs.Words.{outside}
+use Rattle.records.specs.Records.{no_kind, least_pins, most_pins}
+use Rattle.records.specs.Meaning.{meaning_of, meaning_word, meaning_table}
+use Rattle.records.proofs.Meanings.{read_slot}
 use Rattle.records.proofs.meaning_word.Goals as goal
 
--- `meaning_word`: the parts are small. Assumes nothing.
-pub overflow_mul-result : goal.overflow_mul-result
-overflow_mul-result c = omega (arith, byte_low c.args.meaning.inverts)
-
-pub overflow_add-result : goal.overflow_add-result
-overflow_add-result c = omega (arith, byte_low c.args.meaning.inverts)
-
-pub overflow_add-result-2 : goal.overflow_add-result-2
-overflow_add-result-2 c = omega (arith, byte_low c.args.meaning.inverts)
-
-pub overflow_add-result-3 : goal.overflow_add-result-3
-overflow_add-result-3 c = omega (arith, byte_low c.args.meaning.inverts)
-
+-- `meaning_word`: the static's words are the meanings'. Assumes nothing.
 pub returns : goal.returns
-unfolding meaning_word
-returns c = search rules
+unfolding meaning_table tab meaning_word meaning_of no_kind least_pins most_pins outside kind_of
+returns c = c.copied.ensures ∙ read_slot meaning_table c.args.kind c.get.result c.get.ensures.lookup.0 c.get.ensures.lookup.1

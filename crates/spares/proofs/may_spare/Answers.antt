@@ -1,7 +1,7 @@
 use Prim.Native.Nat.{◌+◌, ◌-◌, ◌*◌, ◌/◌, ◌≤◌, ◌<◌}
 use native.Mathlib.Omega.{arith}
 use native.Mathlib.Nat.{zero-mul, sub-zero}
-use mathlib.Core.Path.{◌≡◌, ◌∙◌, ap}
+use mathlib.Core.Path.{◌≡◌, ap}
 use lib.ListN.{length}
 use Rattle.words.specs.Words.{byte_at}
 use Rattle.spares.specs.Spares.{width_of, last_place}
@@ -32,11 +32,8 @@ loop-t-init c =
     let a = c.args in
     (search rules, rw sub-zero (omega (arith, p.4, p.0)), rw zero-mul (omega (arith, p.0)), under_none a.bits a.list.now a.at a.size 0)
 
-pub byte_in-requires : goal.byte_in-requires
-byte_in-requires c = omega (arith, room (goal.at.byte_in-requires c).In-loop-t)
-
-pub byte_in-requires-in-loop-t : goal.byte_in-requires-in-loop-t
-byte_in-requires-in-loop-t c = omega (arith, room (goal.at.byte_in-requires-in-loop-t c).In-loop-t)
+pub bounds-list-last-in-loop-t : goal.bounds-list-last-in-loop-t
+bounds-list-last-in-loop-t c = omega (arith, room (goal.at.bounds-list-last-in-loop-t c).In-loop-t)
 
 pub loop-t-preserved : goal.loop-t-preserved
 loop-t-preserved c =
@@ -47,8 +44,7 @@ loop-t-preserved c =
       search rules,
       omega (arith, room (goal.at.loop-t-preserved c).In-loop-t),
       omega (arith, l.invariant.2, times_next l.t a.size),
-      under_more a.bits a.list.now a.at a.size l.t l.all _ _ l.invariant.3 (c.byte_in.ensures ∙ ap (byte_at a.list.now) here)
-          (c.byte_in-in-loop-t.ensures ∙ ap (byte_at a.list.now) there),
+      under_more a.bits a.list.now a.at a.size l.t l.all _ _ l.invariant.3 (ap (byte_at a.list.now) here) (ap (byte_at a.list.now) there),
     )
 
 pub returns : goal.returns

@@ -4,7 +4,7 @@ use mathlib.Core.Path.{◌≡◌, sym, ◌∙◌, ap, ap₂}
 use mathlib.Core.List.{◌++◌}
 use native.Mathlib.Nat.{add_comm}
 use mathlib.Core.Bool.{◌||◌}
-use lib.Count.{count_trailing_zeros, trailing_le}
+use lib.Count.{count_trailing_zeros}
 use lib.ListN.{length, set}
 use Rattle.kung.specs.Class.{c0, c1, of_code}
 use Rattle.kung.specs.Sets.{bit, has}
@@ -15,68 +15,21 @@ use Rattle.kung.proofs.SetLaws.{lowest_one}
 use Rattle.kung.proofs.Unions.{bit_lt}
 use Rattle.rows.specs.Rows.{gate_in}
 use Rattle.sweep.specs.Sweep.{codes_of, hots_of}
-use Rattle.sweep.proofs.Laws.{pass_starts, hot_starts, pass_more, hot_more, hot_rest, pass_touched, touched_none, pass_length, hot_length, heat_length}
+use Rattle.sweep.proofs.Laws.{pass_starts, hot_starts, pass_more, hot_more, hot_rest, pass_touched, touched_none}
 use borrow.Author.Rules.{rules}
 use Rattle.sweep.proofs.pass.Goals.{At-loop-gate}
 use Rattle.sweep.proofs.pass.Goals as goal
-
--- both buffers keep their lengths
-started : (c : At-loop-gate)
-    → length c.heat.new.hot ≡ length c.args.hot.now
-started c =
-    ap length c.heat.ensures
-    ∙ heat_length c.args.buffer.now c.args.hot.now c.args.inputs (omega (arith, c.requires.1.room)) (omega (arith, c.requires.1.hot_room))
-
-kept_hot : (c : At-loop-gate)
-    → length c.loop-gate.hot ≡ length c.args.hot.now
-kept_hot c =
-    let a = c.args in
-    ap length c.loop-gate.invariant.2
-    ∙ hot_length a.rows.now a.buffer.now a.inputs a.gates (length a.hot.now) c.requires.1 c.heat.new.hot (a.inputs + c.loop-gate.gate)
-    (omega (arith, started c, c.requires.1.hot_room))
-    ∙ started c
-
-kept_buffer : (c : At-loop-gate)
-    → length c.loop-gate.buffer ≡ length c.args.buffer.now
-kept_buffer c =
-    let a = c.args in
-    ap length c.loop-gate.invariant.1
-    ∙ pass_length a.rows.now a.buffer.now a.inputs a.gates (length a.hot.now) c.requires.1 (a.inputs + c.loop-gate.gate) (omega arith)
 
 pub loop-gate-init : goal.loop-gate-init
 loop-gate-init c =
     let a = c.args in (
       search rules,
-      pass_starts a.rows.now a.buffer.now a.inputs a.gates (length a.hot.now) c.requires.1,
-      hot_starts a.rows.now a.buffer.now a.inputs a.gates (length a.hot.now) c.requires.1 a.hot.now c.heat.new.hot
+      pass_starts a.rows.now a.buffer.now a.inputs a.gates (length a.hot.now) c.requires,
+      hot_starts a.rows.now a.buffer.now a.inputs a.gates (length a.hot.now) c.requires a.hot.now c.heat.new.hot
           c.heat.ensures,
       touched_none a.rows.now a.buffer.now a.inputs a.gates _,
       search rules,
     )
-
-pub pin_set-set-requires : goal.pin_set-set-requires
-pin_set-set-requires c =
-    (c.requires.1.gate c.loop-gate.gate c.loop-gate-test.true, c.requires.1.repeats c.loop-gate.gate c.loop-gate-test.true, omega (arith, kept_hot (goal.at.pin_set-set-requires c).At-loop-gate, c.requires.1.hot_room))
-
-pub word_of-requires : goal.word_of-requires
-word_of-requires c =
-    (c.requires.1.gate c.loop-gate.gate c.loop-gate-test.true).inside
-
-pub bounds-hot-s : goal.bounds-hot-s
-bounds-hot-s c =
-    omega (arith, kept_hot (goal.at.bounds-hot-s c).At-loop-gate, c.requires.1.hot_room)
-
-pub overflow_cast-buffer : goal.overflow_cast-buffer
-overflow_cast-buffer c = omega (arith, trailing_le 8 c.gate_set-only.result)
-
-pub bounds-buffer-s : goal.bounds-buffer-s
-bounds-buffer-s c =
-    omega (arith, kept_buffer (goal.at.bounds-buffer-s c).At-loop-gate, c.requires.1.room)
-
-pub overflow_add-touched : goal.overflow_add-touched
-overflow_add-touched c =
-    let union = c.pin_set-set.result in
-    omega (arith, c.is_touched-touched.ensures, bit_lt (has union c0 || has union c1), c.requires.1.gates_high)
 
 pub loop-gate-preserved : goal.loop-gate-preserved
 loop-gate-preserved c =
@@ -88,22 +41,16 @@ loop-gate-preserved c =
     let made = ap (count_trailing_zeros 8) only ∙ lowest_one _ in
     let alone = only ∙ ap (insert 0) (sym (ap of_code made ∙ of_code_code _)) in (
       search rules,
-      pass_more a.rows.now a.buffer.now a.inputs a.gates (length a.hot.now) c.requires.1 old c.loop-gate.hot c.loop-gate.gate h c.loop-gate.invariant.2 _ made
+      pass_more a.rows.now a.buffer.now a.inputs a.gates (length a.hot.now) c.requires old c.loop-gate.hot c.loop-gate.gate h c.loop-gate.invariant.2 _ made
           c.loop-gate.buffer c.loop-gate.invariant.1,
       ap (λ b. set c.loop-gate.hot (a.inputs + c.loop-gate.gate) b) alone
-          ∙ hot_more a.rows.now a.buffer.now a.inputs a.gates (length a.hot.now) c.requires.1 old c.loop-gate.hot c.loop-gate.gate h c.loop-gate.invariant.2 _ made
-          (omega (arith, started (goal.at.loop-gate-preserved c).At-loop-gate, c.requires.1.hot_room)),
+          ∙ hot_more a.rows.now a.buffer.now a.inputs a.gates (length a.hot.now) c.requires old c.loop-gate.hot c.loop-gate.gate h c.loop-gate.invariant.2 _ made
+          (omega (arith, c.requires.hot_room)),
       add_comm c.loop-gate.touched c.is_touched-touched.result
           ∙ ap₂ ◌+◌ (c.is_touched-touched.ensures ∙ ap (λ m. bit (has m c0 || has m c1)) pins.ensures) c.loop-gate.invariant.3
-          ∙ pass_touched a.rows.now a.buffer.now a.inputs a.gates (length a.hot.now) c.requires.1 old c.loop-gate.hot c.loop-gate.gate h c.loop-gate.invariant.2,
+          ∙ pass_touched a.rows.now a.buffer.now a.inputs a.gates (length a.hot.now) c.requires old c.loop-gate.hot c.loop-gate.gate h c.loop-gate.invariant.2,
       omega (arith, c.is_touched-touched.ensures, bit_lt (has pins.result c0 || has pins.result c1)),
     )
-
-pub shape_of-hot : goal.shape_of-hot
-shape_of-hot c = kept_hot (goal.at.shape_of-hot c).At-loop-gate
-
-pub shape_of-buffer : goal.shape_of-buffer
-shape_of-buffer c = kept_buffer (goal.at.shape_of-buffer c).At-loop-gate
 
 pub returns : goal.returns
 returns c =
@@ -115,7 +62,7 @@ returns c =
       hots =
           (rw e at l.invariant.2)
           ∙ ap (λ rest. hots_of (codes_of a.rows.now a.buffer.now a.inputs a.gates (a.inputs + a.gates)) ++ rest)
-          (hot_rest a.rows.now a.buffer.now a.inputs a.gates (length a.hot.now) c.requires.1 a.hot.now c.heat.new.hot
+          (hot_rest a.rows.now a.buffer.now a.inputs a.gates (length a.hot.now) c.requires a.hot.now c.heat.new.hot
           c.heat.ensures a.gates);
       touched = rw e at l.invariant.3;
     }

@@ -13,7 +13,7 @@ use Rattle.kung.specs.Sets.{set_of, has}
 use Rattle.kung.specs.Members.{keep, members, insert}
 use Rattle.kung.specs.Gates.{gate_at, gate_rule, gate_table}
 use Rattle.kung.proofs.Finite.{of_code_code}
-use Rattle.kung.proofs.Laws.{invert_invert}
+use Rattle.kung.proofs.Laws.{invert_if_twice}
 use Rattle.kung.proofs.SetLaws.{has_set_of, join_more, lowest_one}
 use Rattle.kung.proofs.Unions.{has_or, one_class}
 use Rattle.tables.proofs.Doubled.{Doubles, doubled, rows, tab_rows}
@@ -42,12 +42,8 @@ steps g j m low h =
     ap (λ k. insert 0 (turn g k)) (join_more (op_at g) m (2 ^ j + m) (get_or classes j c0) (has_more j m low h))
     ∙ ap (λ k. insert 0 (turn g (join (op_at g) (get_or classes j c0) k))) (sym back)
   where
-    again : (b : Bool) (k : Class) → invert_if b (invert_if b k) ≡ k
-    again true k = invert_invert k
-    again false k = refl
-
     back : turn g (of_code (count_trailing_zeros 8 (insert 0 (turn g (join_all (op_at g) (members m)))))) ≡ join_all (op_at g) (members m)
-    back = ap (λ (c : ℕ). turn g (of_code c)) (lowest_one (turn g (join_all (op_at g) (members m)))) ∙ ap (turn g) (of_code_code (turn g (join_all (op_at g) (members m)))) ∙ again (eqb (g / 2 % 2) 1) (join_all (op_at g) (members m))
+    back = ap (λ (c : ℕ). turn g (of_code c)) (lowest_one (turn g (join_all (op_at g) (members m)))) ∙ ap (turn g) (of_code_code (turn g (join_all (op_at g) (members m)))) ∙ invert_if_twice (eqb (g / 2 % 2) 1) (join_all (op_at g) (members m))
 
 in_row : (r m : ℕ) → m < 256 → gate_rule (r * 256 + m) ≡ row_rule r m
 unfolding gate_rule row_rule

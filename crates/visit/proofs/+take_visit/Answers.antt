@@ -21,7 +21,8 @@ use Rattle.rows.specs.Rows.{count_in, gate_in, inverts_in, word_in, row_kind, ro
 use Rattle.rows.specs.Lent.{GateRow}
 use Rattle.search.specs.Search.{Cell, kept, put, only, Outcome, checks, waits}
 use Rattle.checks.specs.Codes.{waiting_of, code_or, check_of}
-use Rattle.cells.specs.Codes.{begun_from, mark_of}
+use Rattle.cells.specs.declared.Counts.{Counts}
+use Rattle.cells.specs.Codes.{begun_from, known_mark, mark_of}
 use Rattle.cells.specs.Cells.{cell_in, known_in, told_in}
 use Rattle.checks.proofs.Codes.{only_code_lem}
 use Rattle.checks.proofs.Checks.{ended, over, wants, last_class, last_ends, last_is}
@@ -29,7 +30,8 @@ use Rattle.cells.proofs.Cells.{open_cell, told_small, untold_searched, begun_nex
 use Rattle.visit.specs.Cells.{cells_in}
 use Rattle.visit.specs.Lent.{SearchReady}
 use Rattle.visit.specs.Visits.{Lends, Takes}
-use Rattle.visit.proofs.Sources.{gate_operation, inverts_is, pin_is, falling}
+use Rattle.rows.proofs.Gates.{gate_operation, inverts_is, pin_is}
+use Rattle.visit.proofs.Sources.{falling}
 use Rattle.visit.proofs.Totals.{gates_few}
 use Rattle.visit.proofs.Cells.{cells_length}
 use Rattle.visit.proofs.Visits.{Rest, takes_told, rest_first, rest_ends, rest_next, rest_stopped, Ends, ends_small, ends_put}
@@ -67,21 +69,21 @@ visit-arrive-begun-requires t c =
     let l = c.requires.lends.0 in
     let cells = cells_in a.rows.now a.cells.now in (
       l.there,
-      omega (arith, ap (λ t. get_or t 0 0) l.tallied, gates_few cells, cells_length a.rows.now a.cells.now, l.few),
+      omega (arith, ap (λ t. t.gates) l.tallied, gates_few cells, cells_length a.rows.now a.cells.now, l.few),
       pins_counted a.rows.now a.s a.cells.now a.tally.now l c.requires.lends.1,
     )
 
 pub visit-reach_of-reach-requires : goal.visit-reach_of-reach-requires
-visit-reach_of-reach-requires t c = (c.requires.search_ready.table_is, rw c.swapped-want.ensures (swap_small _ _))
+visit-reach_of-reach-requires t c = rw c.swapped-want.ensures (swap_small _ _)
 
 pub visit-stop_bits-stop-requires : goal.visit-stop_bits-stop-requires
 visit-stop_bits-stop-requires t c =
-    (c.requires.search_ready.table_is, c.requires.lends.2, omega (arith, c.gate_in-gate.ensures), rw c.reach_of-reach.ensures (reach_small _ _))
+    (c.requires.lends.2, omega arith, rw c.reach_of-reach.ensures (reach_small _ _))
 
 -- on arrival
 module _ (t : ℕ) (c : visit-After-arrive-begun t) where
-  gate_is : c.gate_in-gate.result ≡ gate_in (word_in c.args.rows.now c.args.s)
-  gate_is = c.gate_in-gate.ensures ∙ ap gate_in c.word_of-word.ensures
+  gate_is : c.word_of-word.result % 4 ≡ gate_in (word_in c.args.rows.now c.args.s)
+  gate_is = ap gate_in c.word_of-word.ensures
 
   -- its byte in the definition
   abbrev Byte : ℕ
@@ -108,7 +110,7 @@ visit-loop-next-init t c =
       at.held,
       at.marked,
       omega arith,
-      at.few,
+      omega (arith, at.within, ap count_in c.word_of-word.ensures),
       at.small,
       rest_first c.args.rows.now (known_in b.new.cells) c.args.s c.args.wanted c.args.waiter b.result.p b.result.next _,
     )
@@ -136,7 +138,7 @@ module _ (t : ℕ) (c : visit-At-loop-next t) where
   Next₀ = c.arrive-begun.result.next
 
   abbrev Gate : ℕ
-  Gate = c.gate_in-gate.result
+  Gate = c.word_of-word.result % 4
 
   -- the definition's cells on arrival
   abbrev Began : List ℕ
@@ -151,8 +153,11 @@ module _ (t : ℕ) (c : visit-At-loop-next t) where
   gate_at_is : Gate ≡ gate_in (word_in Rows Signal)
   gate_at_is = gate_is t (goal.at.visit-At-loop-next t c).After-arrive-begun
 
-  count_is : c.count_in-count.result ≡ count_in (word_in Rows Signal)
-  count_is = c.count_in-count.ensures ∙ ap count_in c.word_of-word.ensures
+  count_is : c.word_of-word.result / 4 ≡ count_in (word_in Rows Signal)
+  count_is = ap count_in c.word_of-word.ensures
+
+  few_pins : c.loop-next.next ≤ 13
+  few_pins = omega (arith, c.loop-next.invariant.3, count_is, row.count_eight)
 
   operation : op_at Gate ≡ op_of (row_kind Rows Signal)
   operation = ap op_at gate_at_is ∙ gate_operation (word_in Rows Signal)
@@ -193,24 +198,24 @@ module _ (t : ℕ) (c : visit-At-loop-next t) where
       c.loop-next.next (put (cells_in Rows c.loop-next.cells) Signal (kept (of_code c.loop-next.p) c.loop-next.next)))
       begun.known c.loop-next.invariant.5
 
-  room : get_or c.loop-next.tally 1 0 ≤ 36864
+  room : c.loop-next.tally.pins ≤ 36864
   room = held_pins Rows Signal c.arrive-begun.new.cells c.loop-next.cells c.loop-next.tally c.loop-next.invariant.0
 
   -- the checks end the visit, and the gate's byte is written
-  checked : (class mark r : ℕ) (exit tally : List ℕ) → class ≡ code_or (only Set) → mark ≡ mark_of class c.loop-next.p c.loop-next.next → mark < 256
+  checked : (class mark r : ℕ) (exit : List ℕ) (tally : Counts) → class ≡ code_or (only Set) → mark ≡ mark_of class c.loop-next.p c.loop-next.next → mark < 256
       → exit ≡ set c.loop-next.cells Signal mark
-      → tally ≡ set c.loop-next.tally 1 (get_or c.loop-next.tally 1 0 + c.loop-next.next) → ended Checked ≡ true
+      → tally ≡ record c.loop-next.tally { pins = c.loop-next.tally.pins + c.loop-next.next } → ended Checked ≡ true
       → r ≡ check_of (waiting_of c.args.waiter) Checked
       → Takes Rows Signal c.args.wanted c.args.waiter Entry exit tally r
   checked class mark r exit tally found is-mark fits left counted over h =
       let a = c.args in
       let l = c.loop-next in
       leaves Rows Signal a.wanted a.waiter P₀ Next₀ Entry c.arrive-begun.new.cells c.arrive-begun.new.tally l.cells l.tally begun
-      l.invariant.0 l.p l.next mark (marked_cell Rows Signal l.p l.next class mark found l.invariant.3 is-mark)
-      (marked_large Rows Signal l.p l.next class mark found l.invariant.3 is-mark) fits exit tally left counted r
+      l.invariant.0 l.p l.next mark (marked_cell Rows Signal l.p l.next class mark found few_pins is-mark)
+      (marked_large Rows Signal l.p l.next class mark found few_pins is-mark) fits exit tally left counted r
       (rest_ends Rows (known_in Entry) Signal a.wanted a.waiter P₀ Next₀ Began l.p l.next
       (put (cells_in Rows l.cells) Signal (kept (of_code l.p) l.next)) rest_is (cells_in Rows Entry) begun.starts over r h)
-      (λ small. (l.invariant.1, marked_told Rows Signal l.p l.next class mark found l.invariant.3 is-mark))
+      (λ small. (l.invariant.1, marked_told Rows Signal l.p l.next class mark found few_pins is-mark))
 
 -- a pin is left, and the stop bits were looked at
 module _ (t : ℕ) (c : visit-After-has_class t) where
@@ -236,12 +241,13 @@ visit-only_class-class-requires t c = rw c.possible_set-set.ensures (possible_sm
 pub visit-check_set-answer-requires : goal.visit-check_set-answer-requires
 visit-check_set-answer-requires t c =
     let few : c.possible_set-set.result < 256 = rw c.possible_set-set.ensures (possible_small _ _ _ true) in
-    (c.requires.search_ready.table_is, few, c.requires.lends.2, c.only_class-class.ensures ∙ only_code_lem c.possible_set-set.result few)
+    (few, c.requires.lends.2, c.only_class-class.ensures ∙ only_code_lem c.possible_set-set.result few)
 
 pub visit-leave-requires : goal.visit-leave-requires
 visit-leave-requires t c =
     let l = c.loop-next.invariant in
-    (l.0.there, room t (goal.at.visit-leave-requires t c).At-loop-next, l.3)
+    let o = (goal.at.visit-leave-requires t c).At-loop-next in
+    (l.0.there, room t o, few_pins t o)
 
 pub visit-returns-then-has_class : goal.visit-returns-then-has_class
 visit-returns-then-has_class t c =
@@ -272,11 +278,11 @@ module _ (t : ℕ) (c : visit-After-waiter_of t) where
   left : c.loop-next.next < count_in (word_in c.args.rows.now c.args.s)
   left = more_pins t tested
 
-  below : c.pin_at-x.result < c.args.s
-  below = omega (arith, c.pin_at-x.ensures, (row t loops).below c.loop-next.next (omega (arith, left, eight)))
+  below : c.pin_of-x.result < c.args.s
+  below = omega (arith, c.pin_of-x.ensures, (row t loops).below c.loop-next.next (omega (arith, left, eight)))
 
-  on_pin : c.pin_at-x.result ≡ get_or (row_pins c.args.rows.now c.args.s) c.loop-next.next 0
-  on_pin = c.pin_at-x.ensures ∙ pin_is c.args.rows.now c.args.s c.loop-next.next left
+  on_pin : c.pin_of-x.result ≡ get_or (row_pins c.args.rows.now c.args.s) c.loop-next.next 0
+  on_pin = c.pin_of-x.ensures ∙ pin_is c.args.rows.now c.args.s c.loop-next.next left
 
   -- what is known is as on arrival
   known_is : known_in c.loop-next.cells ≡ known_in c.args.cells.now
@@ -300,7 +306,7 @@ visit-take-ending-requires t c =
     let k = (goal.at.visit-take-ending-requires t c).After-waiter_of in
     let l = (goal.at.visit-take-ending-requires t c).At-loop-next in
     let held = c.loop-next.invariant.0 in
-    let lends : Lends c.args.rows.now c.pin_at-x.result c.loop-next.cells c.loop-next.tally =
+    let lends : Lends c.args.rows.now c.pin_of-x.result c.loop-next.cells c.loop-next.tally =
     record {
       there = omega (arith, below t k, held.there);
       few = held.few;
@@ -310,15 +316,15 @@ visit-take-ending-requires t c =
     }
     in
     let pins : c.arrive-begun.result.next ≡ get_or c.args.cells.now c.args.s 0 / 8 - 2 =
-    c.arrive-begun.ensures.next ∙ begun_next c.gate_in-gate.result (get_or c.args.cells.now c.args.s 0)
+    c.arrive-begun.ensures.next ∙ begun_next (c.word_of-word.result % 4) (get_or c.args.cells.now c.args.s 0)
     in (
       omega (arith, c.decreases, below t k, left t k, c.loop-next.invariant.2, pins),
       (
-        subst (SearchReady c.args.table.now c.args.rows.now) (sym (known_is t k)) c.requires.search_ready,
+        subst (SearchReady c.args.rows.now) (sym (known_is t k)) c.requires.search_ready,
         (
           lends,
           c.waiter_of.ensures.1,
-          rw c.goal_of-goal.ensures (goal_small (ltb (c.loop-next.next + 1) c.count_in-count.result) (reach_few t l) (want_few t l)),
+          rw c.goal_of-goal.ensures (goal_small (ltb (c.loop-next.next + 1) (c.word_of-word.result / 4)) (reach_few t l) (want_few t l)),
         ),
       ),
     )
@@ -334,7 +340,7 @@ module _ (t : ℕ) (c : visit-After-take-ending t) where
   abbrev After : List ℕ
   After = c.take-ending.new.cells
 
-  abbrev Tally : List ℕ
+  abbrev Tally : Counts
   Tally = c.take-ending.new.tally
 
   -- the gate's cell in the definition
@@ -344,16 +350,16 @@ module _ (t : ℕ) (c : visit-After-take-ending t) where
   held : Held c.args.rows.now c.args.s c.arrive-begun.new.cells After Tally
   held =
       held_after c.args.rows.now c.args.s c.arrive-begun.new.cells c.loop-next.cells c.loop-next.tally
-      c.pin_at-x.result (Wanted t at_pin) c.waiter_of.result After Tally c.take-ending.result (below t at_pin) c.take-ending.ensures
+      c.pin_of-x.result (Wanted t at_pin) c.waiter_of.result After Tally c.take-ending.result (below t at_pin) c.take-ending.ensures
       c.loop-next.invariant.0
 
-  taking : Ends c.args.rows.now (known_in c.args.cells.now) c.pin_at-x.result (Wanted t at_pin) c.waiter_of.result
+  taking : Ends c.args.rows.now (known_in c.args.cells.now) c.pin_of-x.result (Wanted t at_pin) c.waiter_of.result
       (put (cells_in c.args.rows.now c.loop-next.cells) c.args.s Held-cell) (put (cells_in c.args.rows.now After) c.args.s Held-cell)
       c.take-ending.result
   taking =
       let rows = c.args.rows.now in
       let entry = known_in c.args.cells.now in
-      let x = c.pin_at-x.result in
+      let x = c.pin_of-x.result in
       let l = c.loop-next in
       ends_put rows entry x (Wanted t at_pin) c.waiter_of.result (cells_in rows l.cells)
       (cells_in rows After) c.take-ending.result c.args.s Held-cell (falling rows entry c.requires.search_ready.gates_only)
@@ -370,7 +376,7 @@ module _ (t : ℕ) (c : visit-After-take-ending t) where
   waiting_is = c.waiter_of.ensures.0 ∙ ap (λ o. waits o (of_code c.loop-next.p)) (operation t looped)
 
   small : c.take-ending.result ≤ 8
-  small = ends_small c.args.rows.now (known_in c.args.cells.now) c.pin_at-x.result (Wanted t at_pin) c.waiter_of.result _ _ c.take-ending.result taking
+  small = ends_small c.args.rows.now (known_in c.args.cells.now) c.pin_of-x.result (Wanted t at_pin) c.waiter_of.result _ _ c.take-ending.result taking
 
   stopped_by : c.take-ending.result ≡ 8
       → Ends c.args.rows.now (known_in c.args.cells.now) c.args.s c.args.wanted c.args.waiter
@@ -380,7 +386,7 @@ module _ (t : ℕ) (c : visit-After-take-ending t) where
       let a = c.args in
       let rows = a.rows.now in
       rest_stopped rows (known_in a.cells.now) a.s a.wanted a.waiter _ _ (Began t looped) l.p
-      l.next _ (rest_is t looped) going_on (left t at_pin) c.pin_at-x.result (Wanted t at_pin) c.waiter_of.result
+      l.next _ (rest_is t looped) going_on (left t at_pin) c.pin_of-x.result (Wanted t at_pin) c.waiter_of.result
       _ _ c.take-ending.result (on_pin t at_pin) (below t at_pin) (wanted_is t at_pin) waiting_is
       (sym (put_put (cells_in rows l.cells) a.s (of_code l.p) (of_code l.p) l.next (l.next + 1)))
       taking stop (cells_in rows a.cells.now) (begun t looped).starts
@@ -394,7 +400,7 @@ module _ (t : ℕ) (c : visit-After-take-ending t) where
       let a = c.args in
       let rows = a.rows.now in
       rest_next rows (known_in a.cells.now) a.s a.wanted a.waiter _ _ (Began t looped) l.p
-      l.next _ (rest_is t looped) going_on (left t at_pin) c.pin_at-x.result (Wanted t at_pin) c.waiter_of.result
+      l.next _ (rest_is t looped) going_on (left t at_pin) c.pin_of-x.result (Wanted t at_pin) c.waiter_of.result
       _ _ c.take-ending.result (on_pin t at_pin) (below t at_pin) (wanted_is t at_pin) waiting_is
       (sym (put_put (cells_in rows l.cells) a.s (of_code l.p) (of_code l.p) l.next (l.next + 1)))
       taking
@@ -435,10 +441,10 @@ visit-loop-next-preserved t c =
     let r = c.take-ending.result in
     let less : r < 8 = omega (arith, small t k, c.if-ending-ge-STOPPED.false) in (
       held t k,
-      marks_after rows a.s c.arrive-begun.new.cells l.cells l.tally c.pin_at-x.result (Wanted t w)
+      marks_after rows a.s c.arrive-begun.new.cells l.cells l.tally c.pin_of-x.result (Wanted t w)
           c.waiter_of.result (After t k) (Tally t k) r (below t w) c.take-ending.ensures less l.invariant.1,
       omega (arith, l.invariant.2),
-      omega (arith, left t w, eight t w),
+      omega (arith, c.loop-next-test.true),
       less,
       subst
           (λ known.
@@ -455,7 +461,8 @@ visit-loop-next-preserved t c =
 pub visit-leave-requires-2 : goal.visit-leave-requires-2
 visit-leave-requires-2 t c =
     let l = c.loop-next.invariant in
-    (l.0.there, room t (goal.at.visit-leave-requires-2 t c).At-loop-next, l.3)
+    let o = (goal.at.visit-leave-requires-2 t c).At-loop-next in
+    (l.0.there, room t o, omega (arith, count_is t o, (row t o).count_eight))
 
 pub visit-returns : goal.visit-returns
 visit-returns t c =
@@ -464,6 +471,7 @@ visit-returns t c =
     let a = c.args in
     let d = row_kind a.rows.now a.s in
     let class = c.class_of-class.result in
+    let all : c.word_of-word.result / 4 ≡ l.next = omega (arith, l.invariant.3, c.loop-next-test.false) in
     let none : ltb l.next (count_in (word_in a.rows.now a.s)) ≡ false =
     le-ltb l.next (count_in (word_in a.rows.now a.s)) (omega (arith, count_is t o, c.loop-next-test.false))
     in
@@ -474,7 +482,8 @@ visit-returns t c =
     let small : class < 8 = omega (arith, last, code_lt (invert_if (inverts d) (of_code l.p))) in
     checked t o class c.known_mark.result c.check_known-answer.result c.leave-2.new.cells c.leave-2.new.tally
     (rw none (last ∙ sym (last_class d (of_code l.p) a.wanted a.waiter)))
-    (rw (lt-ltb class 8 small) c.known_mark.ensures) (omega arith) c.leave-2.ensures.cells c.leave-2.ensures.tally
+    (rw (lt-ltb class 8 small) (c.known_mark.ensures ∙ ap (known_mark class) all)) (omega arith) c.leave-2.ensures.cells
+    (c.leave-2.ensures.tally ∙ ap (λ n. record l.tally { pins = l.tally.pins + n }) all)
     (rw none (last_ends d (of_code l.p) a.wanted a.waiter))
     (rw none
     (c.check_known-answer.ensures ∙ ap (λ k. cond (has a.wanted k) (code (joined_by a.waiter k)) 8) own ∙ last_is d (of_code l.p) a.wanted a.waiter))

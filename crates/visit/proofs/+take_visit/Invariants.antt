@@ -20,10 +20,7 @@ decreases-visit l = 9 * l.s + (count_in (word_in l.rows.now l.s) - (get_or l.cel
 
 abbrev pub invariant-visit-loop-next : goal.invariant-visit-loop-next
 invariant-visit-loop-next l =
-    Held l.rows l.s l.initial.cells l.cells l.tally × Marks l.rows l.cells l.s × (l.initial.next ≤ l.next) × (l.next ≤ 13) × (l.p < 8)
+    Held l.rows l.s l.initial.cells l.cells l.tally × Marks l.rows l.cells l.s × (l.initial.next ≤ l.next) × (l.next ≤ l.count) × (l.p < 8)
     × Rest l.rows (known_in l.initial.cells) l.s l.wanted l.waiter l.initial.p l.initial.next
     (put (cells_in l.rows l.initial.cells) l.s (kept (of_code l.initial.p) l.initial.next)) l.p l.next
     (put (cells_in l.rows l.cells) l.s (kept (of_code l.p) l.next))
-
-abbrev pub decreases-visit-loop-next : goal.decreases-visit-loop-next
-decreases-visit-loop-next l = l.count - l.next

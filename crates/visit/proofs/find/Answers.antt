@@ -2,7 +2,7 @@
 use Prim.Native.Nat.{ℕ, suc, ◌+◌, ◌-◌, ◌≤◌, ◌<◌}
 use native.Mathlib.Omega.{arith}
 use native.Mathlib.Decide.{dec_lt}
-use mathlib.Core.Path.{◌≡◌, sym, ◌∙◌, ap, subst}
+use mathlib.Core.Path.{◌≡◌, refl, sym, ◌∙◌, ap, subst}
 use mathlib.Core.List.{List}
 use lib.ListN.{get_or}
 use Rattle.cells.specs.Cells.{told_in}
@@ -21,7 +21,7 @@ pub visit-ending-requires-clause-search_ready : goal.visit-ending-requires-claus
 visit-ending-requires-clause-search_ready c =
     let a = c.args in
     let ready = c.requires.0 in
-    subst (SearchReady a.table.now a.rows.now) (sym (fresh_known a.rows.now a.known.now ready.afresh)) ready
+    subst (SearchReady a.rows.now) (sym (fresh_known a.rows.now a.known.now ready.afresh)) ready
 
 pub visit-ending-requires-clause-lends : goal.visit-ending-requires-clause-lends
 visit-ending-requires-clause-lends c =
@@ -53,7 +53,7 @@ returns-clause-found c =
     let a = c.args in
     let v = c.visit-ending in
     search_visited a.rows.now a.known.now c.requires.0.afresh a.wanted a.s (falling a.rows.now a.known.now c.requires.0.gates_only)
-    c.requires.2 c.if-class-lt8.false v.result v.new.cells v.new.tally v.ensures _ c.verdict_of.ensures c.wide.ensures c.wide-2.ensures
+    c.requires.2 c.if-class-lt8.false v.result v.new.cells v.new.tally v.ensures _ c.verdict_of.ensures refl refl
 
 pub returns-clause-known : goal.returns-clause-known
 returns-clause-known c =
