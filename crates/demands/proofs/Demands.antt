@@ -142,7 +142,28 @@ module _ (n l : List ℕ) (change output : ℕ) (buffer : List ℕ) where
       }
 
 numbers : Numbers
-numbers = record { no_change = (refl, refl); no_output = (refl, refl); buffer_short = (refl, refl) }
+numbers = record {
+  netlist_short = λ at. (refl, refl);
+  count = λ at. (refl, refl);
+  cut_off = λ at. (refl, refl);
+  kind = λ at. (refl, refl);
+  pin_count = λ at. (refl, refl);
+  pin = λ at. (refl, refl);
+  entry = λ at. (refl, refl);
+  bytes_left = λ at. (refl, refl);
+  list_short = λ at. (refl, refl);
+  list_length = λ at. (refl, refl);
+  spare_bit = λ at. (refl, refl);
+  netlist_mark = (refl, refl);
+  netlist_version = (refl, refl);
+  list_mark = (refl, refl);
+  list_version = (refl, refl);
+  tie = (refl, refl);
+  changes = (refl, refl);
+  no_change = (refl, refl);
+  no_output = (refl, refl);
+  buffer_short = (refl, refl);
+}
 
 reading : (n l : List ℕ) → Reading n l
 unfolding accepted list_accepted

@@ -86,7 +86,8 @@ module _ (w : Walk) where
       }
 
 module _ (s : Bor (List ℕ)) where
-  carries : checked s.now ≡ accepted s.now → opened s ≡ Ok (record { netlist = s; number = 0; place = 11; count = gates_of s.now })
+  carries : checked s.now ≡ accepted s.now
+      → opened s ≡ Ok (record { walk = record { netlist = s; number = 0; place = 11; count = gates_of s.now }; shape = shape_of s.now })
   unfolding accepted shape_of
   carries e = rw e
 

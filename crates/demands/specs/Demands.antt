@@ -7,10 +7,11 @@ use Rattle.kung.specs.Rule.{gate_class}
 use Rattle.kung.specs.Sets.{has}
 use Rattle.circuit.specs.Settled.{settled}
 use Rattle.records.specs.Records.{kind_at, count_at, past_record, least_pins, most_pins}
-use Rattle.netlist.specs.Netlist.{inputs_of, gates_of, outputs_of, output_at, gate_kind, gate_pins, pin_total, card_of, accepted, checked}
+use Rattle.netlist.specs.Netlist.{inputs_of, gates_of, outputs_of, output_at, gate_kind, gate_pins, pin_total, card_of, shape_of, accepted, checked}
 use Rattle.netlist.specs.Proper.{Proper, conditions, first_met}
 use Rattle.refusals.specs.declared.Refusal.{Refusal}
-use Rattle.refusals.specs.declared.Refusal.TheVariants.{NoChange, NoOutput, BufferShort}
+use Rattle.refusals.specs.declared.Refusal.TheVariants.{NetlistShort, NetlistMark, NetlistVersion, Count, CutOff, Kind, PinCount, Pin, Entry, BytesLeft}
+use Rattle.refusals.specs.declared.Refusal.TheVariants.{ListShort, ListMark, ListVersion, Tie, Changes, ListLength, SpareBit, NoChange, NoOutput, BufferShort}
 use Rattle.refusals.specs.Refusal.{number_of, place_of}
 use Rattle.changes.specs.Changes.{version_of, layout_in, first, second, starts, ends, bit_of}
 use Rattle.changes.specs.Refusals.{list_checked}
@@ -85,12 +86,35 @@ Calls core n l change output called = clean_by (core_answer n l change output) �
 -- "the work ends" is no field: the proof of every function includes it, by measures that fall with each turn of a loop and each call of the cycle of
 -- visits; and definitions are total, so that there is an answer for the call to equal.
 
--- The numbers and places of the operations' own refusals: "Places from 18 up are 0 unless given otherwise." Those of the netlist's and the list's are
--- beside document 01's words in refusals/specs/Refusal.antt.
+-- "A refusal is a number and a byte place."
+abbrev pub Given : Refusal → (number place : ℕ) → Type 0
+Given refusal number place = (number_of refusal ≡ number) × (place_of refusal ≡ place)
+
+-- The numbers and places of all refusals: "Netlist: under 11 bytes 1 (place: the length); mark 2 (0); version 3 (3); I, G, O out of range 4 (5, 7, 9). Per
+-- record: under two bytes left 5 (record start); kind 6 (its byte); pin count 7 (its byte); pins cut off 5 (record start); pin not below its gate 8 (that
+-- pin). Then output entries cut off 5 (their start); entry not below I + G 9 (it); bytes left 10 (the first)."; "List: .. under 11 bytes 11 (length); mark
+-- 12 (0); version 13 (3); tie 14 (5); T 15 (9); length .. 16 (length); first byte with a spare bit 17 (it)."; "Places from 18 up are 0 unless given otherwise."
 pub record Numbers : Type 0 where
-  pub no_change : (number_of NoChange ≡ 18) × (place_of NoChange ≡ 0)
-  pub no_output : (number_of NoOutput ≡ 19) × (place_of NoOutput ≡ 0)
-  pub buffer_short : (number_of BufferShort ≡ 20) × (place_of BufferShort ≡ 0)
+  pub netlist_short : (at : ℕ) → Given (NetlistShort at) 1 at
+  pub netlist_mark : Given NetlistMark 2 0
+  pub netlist_version : Given NetlistVersion 3 3
+  pub count : (at : ℕ) → Given (Count at) 4 at
+  pub cut_off : (at : ℕ) → Given (CutOff at) 5 at
+  pub kind : (at : ℕ) → Given (Kind at) 6 at
+  pub pin_count : (at : ℕ) → Given (PinCount at) 7 at
+  pub pin : (at : ℕ) → Given (Pin at) 8 at
+  pub entry : (at : ℕ) → Given (Entry at) 9 at
+  pub bytes_left : (at : ℕ) → Given (BytesLeft at) 10 at
+  pub list_short : (at : ℕ) → Given (ListShort at) 11 at
+  pub list_mark : Given ListMark 12 0
+  pub list_version : Given ListVersion 13 3
+  pub tie : Given Tie 14 5
+  pub changes : Given Changes 15 9
+  pub list_length : (at : ℕ) → Given (ListLength at) 16 at
+  pub spare_bit : (at : ℕ) → Given (SpareBit at) 17 at
+  pub no_change : Given NoChange 18 0
+  pub no_output : Given NoOutput 19 0
+  pub buffer_short : Given BufferShort 20 0
 
 -- Netlists and lists
 pub record Reading (n l : List ℕ) : Type 0 where
@@ -136,7 +160,8 @@ pub record Opening (s : Bor (List ℕ)) : Type 0 where
   -- "Opening checks the netlist": accepted, or the first condition met
   pub checks : opened s ≡ opened_by s (first_met (conditions s.now) (accepted s.now))
   -- "A gate walk carries the lent netlist and the record it has reached, by number and place, with G."
-  pub carries : checked s.now ≡ accepted s.now → opened s ≡ Ok (record { netlist = s; number = 0; place = 11; count = gates_of s.now })
+  pub carries : checked s.now ≡ accepted s.now
+      → opened s ≡ Ok (record { walk = record { netlist = s; number = 0; place = 11; count = gates_of s.now }; shape = shape_of s.now })
   -- a refused netlist has no walk
   pub refused : (refusal : Refusal) → checked s.now ≡ Err refusal → opened s ≡ Err refusal
   -- "each step hands back the part that is the next record": gate 0's to gate G - 1's, in order, and then none

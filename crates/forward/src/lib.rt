@@ -82,6 +82,7 @@ fn forward_in(
 }
 
 // The same with R numbers for the rows of S signals. Not taken into its caller, whose frame would be touched page by page for a small card too.
+// What is asked of R and S stands here and in three other crates: a const parameter carries no fact.
 #[inline(never)]
 fn forward_within<const R: usize, const S: usize>(
     netlist: &[u8],

@@ -13,10 +13,7 @@ use std::{fs, io};
 fn read_some(file: &mut File, buffer: &mut [u8]) -> usize
     ensures { result ≤ length buffer.new }
 {
-    match file.read(buffer) {
-        Ok(n) => n,
-        Err(_) => 0,
-    }
+    file.read(buffer).unwrap_or(0)
 }
 
 // Reads the first bytes of a file, as many as the buffer holds: none where it is missing or cannot be read.

@@ -53,6 +53,7 @@ pub fn put_outputs(
             change,
             output,
             class: classes[signal],
+            // by its byte, as the text's definition has it
             clean: outputs::byte_of(found.verdict) == 0,
             gates: found.gates,
             pins: found.pins,

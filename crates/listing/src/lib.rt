@@ -20,7 +20,7 @@ pub enum Progress {
     Change(usize),
 }
 
-// A piece in the buffer: its length, and where the next begins. An empty one is the last.
+// A piece in the buffer: its length, and where the next begins. An empty one is the last; it is no None, since it too says where the next would begin.
 #[derive(Clone, Copy)]
 pub struct Piece {
     pub length: usize,

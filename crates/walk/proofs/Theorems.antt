@@ -32,9 +32,6 @@ module _ (s : Bor (List ℕ)) {shape : Shape} (accepted : checked s.now ≡ Ok s
   form : Formed s.now shape
   form = formed s.now accepted
 
-  opens : opened s ≡ Ok (walk_of s)
-  opens = rw accepted (rw form.gates_are)
-
   -- the walk where it has reached gate k's record
   abbrev at_gate : ℕ → Walk
   at_gate k = walk_at s k (place_of s.now k) (gates_of s.now)
@@ -53,7 +50,7 @@ module _ (s : Bor (List ℕ)) {shape : Shape} (accepted : checked s.now ≡ Ok s
 
   pub hands_back : HandsBack s
   hands_back = record {
-    opens = opens;
+    opens = λ given e. rw e (rw (formed s.now e).gates_are);
     in_order = λ k h. rw (reaches k (omega arith)) (finds (at_gate k) _ (at_record k h)).0;
     then_none = rw (reaches (gates_of s.now) (omega arith)) (none (at_gate (gates_of s.now)) at_end).0;
     then_unchanged = rw (reaches (gates_of s.now) (omega arith)) (none (at_gate (gates_of s.now)) at_end).1;

@@ -4,7 +4,9 @@ use Rattle.std.specs.Borrow.{Bor}
 use Rattle.records.specs.Records.{kind_at, count_at, past_record, unfit}
 use Rattle.refusals.specs.declared.Refusal.{Refusal}
 use Rattle.netlist.specs.Netlist.{Checked, gates_of, place_of, checked}
+use Rattle.netlist.specs.declared.Shape.{Shape}
 use Rattle.walk.specs.declared.Walk.{Walk}
+use Rattle.walk.specs.declared.Opened.{Opened}
 use Rattle.walk.specs.declared.Stepped.{Stepped}
 use Rattle.walk.specs.declared.Start.{Start}
 
@@ -54,11 +56,11 @@ abbrev pub walk_of : Bor (List ℕ) → Walk
 walk_of s = walk_at s 0 11 (gates_of s.now)
 
 -- "Opening checks the netlist": a walk of an accepted one's records, and none of a refused one
-abbrev pub opened_by : Bor (List ℕ) → Checked → Result Walk Refusal
-opened_by s (Ok shape) = Ok (walk_at s 0 11 shape.gates)
+abbrev pub opened_by : Bor (List ℕ) → Checked → Result Opened Refusal
+opened_by s (Ok shape) = Ok (record { walk = walk_at s 0 11 shape.gates; shape = shape })
 opened_by s (Err refusal) = Err refusal
 
-abbrev pub opened : Bor (List ℕ) → Result Walk Refusal
+abbrev pub opened : Bor (List ℕ) → Result Opened Refusal
 opened s = opened_by s (checked s.now)
 
 -- a step in numbers: how many bytes it hands back, 0 where it gives none, and the number and place it reaches
@@ -70,8 +72,8 @@ abbrev pub step_of : Walk → Stepped
 step_of w = record { length = size_of (handed w); number = (stepped w).number; place = (stepped w).place }
 
 -- opening in numbers: where the walk starts
-abbrev pub start_of : Result Walk Refusal → Result Start Refusal
-start_of (Ok w) = Ok (record { number = w.number; place = w.place; count = w.count })
+abbrev pub start_of : Result Opened Refusal → Result Start Refusal
+start_of (Ok o) = Ok (record { shape = o.shape; number = o.walk.number; place = o.walk.place; count = o.walk.count })
 start_of (Err refusal) = Err refusal
 
 -- a walk after some steps
@@ -85,7 +87,7 @@ record_of n g = part n (place_of n g) (place_of n (suc g))
 
 -- "each step hands back the part that is the next record": of a netlist that is accepted, gate 0's to gate G - 1's, and then none
 pub record HandsBack (s : Bor (List ℕ)) : Type 0 where
-  pub opens : opened s ≡ Ok (walk_of s)
+  pub opens : (shape : Shape) → checked s.now ≡ Ok shape → opened s ≡ Ok (record { walk = walk_of s; shape = shape })
   pub in_order : (g : ℕ) → g < gates_of s.now → handed (after g (walk_of s)) ≡ Some (record_of s.now g)
   pub then_none : handed (after (gates_of s.now) (walk_of s)) ≡ None
   pub then_unchanged : stepped (after (gates_of s.now) (walk_of s)) ≡ after (gates_of s.now) (walk_of s)

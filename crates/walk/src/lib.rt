@@ -5,6 +5,7 @@
 ghost use Rattle.std.specs.Prelude.{◌≡◌, option_copied};
 ghost use Rattle.walk.specs.Walk.{found_at, handed, stepped, opened, walk_at, step_of, start_of};
 
+use netlist::Shape;
 use refusals::Refusal;
 
 #[derive(Clone, Copy)]
@@ -37,7 +38,7 @@ pub fn record_at(netlist: &[u8], number: usize, place: usize, count: usize) -> O
 }
 
 impl<'a> Walk<'a> {
-    // Hands back the next record and moves on, or gives none and stays.
+    // Hands back the next record and moves on, or gives none and stays. No Iterator's `next`: README promises it under this name.
     pub fn step(&mut self) -> Option<&'a [u8]>
         ensures { (option_copied result ≡ handed self.old) × (self.new ≡ stepped self.old) }
     {
@@ -49,20 +50,30 @@ impl<'a> Walk<'a> {
     }
 }
 
+// What opening gives: the walk, and the shape that the check gave.
+#[derive(Clone, Copy)]
+pub struct Opened<'a> {
+    pub walk: Walk<'a>,
+    pub shape: Shape,
+}
+
 // Checks a netlist and opens a walk of its records.
-pub fn open<'a>(netlist: &'a [u8]) -> Result<Walk<'a>, Refusal>
+pub fn open<'a>(netlist: &'a [u8]) -> Result<Opened<'a>, Refusal>
     ensures { result ≡ opened netlist.entry }
 {
     let shape = netlist::check(netlist)?;
-    Ok(Walk {
-        netlist,
-        number: 0,
-        place: 11,
-        count: shape.gates,
+    Ok(Opened {
+        walk: Walk {
+            netlist,
+            number: 0,
+            place: 11,
+            count: shape.gates,
+        },
+        shape,
     })
 }
 
-// One step in numbers: the bytes of the part, 0 for none, and the number and place reached.
+// One step in numbers, as the library's callers are handed it: the bytes of the part, 0 for none, and the number and place reached.
 #[derive(Clone, Copy)]
 pub struct Stepped {
     pub length: usize,
@@ -88,9 +99,10 @@ pub fn step_at(netlist: &[u8], number: usize, place: usize, count: usize) -> Ste
     }
 }
 
-// Where an opened walk starts.
+// Where an opened walk starts, and the shape that the check gave.
 #[derive(Clone, Copy)]
 pub struct Start {
+    pub shape: Shape,
     pub number: usize,
     pub place: usize,
     pub count: usize,
@@ -100,8 +112,10 @@ pub struct Start {
 pub fn open_at(netlist: &[u8]) -> Result<Start, Refusal>
     ensures { result ≡ start_of (opened netlist.entry) }
 {
-    let walk = open(netlist)?;
+    let opened = open(netlist)?;
+    let walk = opened.walk;
     Ok(Start {
+        shape: opened.shape,
         number: walk.number,
         place: walk.place,
         count: walk.count,
