@@ -10,7 +10,7 @@ use Rattle.netlist.specs.Netlist.{gates_of, place_of, shape_of, accepted, checke
 use Rattle.netlist.proofs.Accepted.{formed}
 use Rattle.netlist.proofs.Proper.{first_refusal}
 use Rattle.walk.specs.declared.Walk.{Walk}
-use Rattle.walk.specs.Walk.{whole, found, walk_of, opened, opened_by}
+use Rattle.walk.specs.Walk.{whole, found, walk_of, opened, opened_by, size_of}
 use Rattle.walk.proofs.Laws.{whole_formed, whole_room, found_none, found_no_record, found_record, record_found}
 use Rattle.walk.proofs.Theorems.{finds, none, empty_none, hands_back, refused_none}
 use Rattle.demands.specs.Demands.{GivesNone, GivesRecord, Opening, WholeRecord, Step}
@@ -56,6 +56,9 @@ module _ (w : Walk) where
       go (Some past) e = ap Some (record_found w.netlist.now w.place w.number w.count past e).2
       go None e = absurd (some (none w e).0)
 
+  none_found : GivesNone w → found w ≡ None
+  none_found h = empty_none w (ap size_of h)
+
   none_when : GivesNone w → (w.count ≤ w.number) ⊎ (WholeRecord w.netlist.now w.place → ⊥)
   none_when h = go (leb w.count w.number) (whole w.netlist.now w.place) refl refl
     where
@@ -65,7 +68,7 @@ module _ (w : Walk) where
       go false false _ e = inr (λ r. false≢true (sym e ∙ (whole_exactly w.netlist.now w.place).1 r))
       go false true left e =
           let f = found_record w.netlist.now w.place w.number w.count (leb-false w.count w.number left) e in
-          let d = empty_none w h in
+          let d = none_found h in
           cc
 
   when_none : (w.count ≤ w.number) ⊎ (WholeRecord w.netlist.now w.place → ⊥) → GivesNone w
@@ -82,7 +85,8 @@ module _ (w : Walk) where
         gives_none = (none_when, when_none);
         gives_record = λ some. (finds w _ (given some)).0;
         moves_on = λ some. (finds w _ (given some)).1;
-        stays = λ h. (none w (empty_none w h)).1;
+        stays = λ h. (none w (none_found h)).1;
+        none_by_length = (λ h. ap size_of h, λ h. (none w (empty_none w h)).0);
       }
 
 module _ (s : Bor (List ℕ)) where

@@ -27,7 +27,7 @@ use Rattle.core_search.specs.Core.{Cored, answered_with, search_of, core_answer}
 use Rattle.constants.specs.Change.{constants_in, touched_in}
 use Rattle.forward.specs.Forward.{counted, output_search, visited_in, forward_answer, forward_buffer}
 use Rattle.walk.specs.declared.Walk.{Walk}
-use Rattle.walk.specs.Walk.{part, handed, stepped, walk_of, opened, opened_by, HandsBack}
+use Rattle.walk.specs.Walk.{part, handed, stepped, step_of, walk_of, opened, opened_by, HandsBack}
 use Rattle.bench.specs.Bench.{Event, signal_value, after, AllowedFrom, Order, Complete, GateAfterGate, needs}
 
 -- an accepted netlist and list
@@ -188,6 +188,8 @@ pub record Step (w : Walk) : Type 0 where
       → stepped w ≡ record { netlist = w.netlist; number = w.number + 1; place = past_record w.netlist.now w.place; count = w.count }
   -- "a step that gives none leaves the walk unchanged"
   pub stays : GivesNone w → stepped w ≡ w
+  -- in numbers it hands back "0 for none", and 0 for nothing else
+  pub none_by_length : GivesNone w ↔ ((step_of w).length ≡ 0)
 
 pub record Demand1 : Type 0 where
   pub numbers : Numbers

@@ -1,5 +1,5 @@
 -- Laws of texts one after the other. Assumes nothing.
-use Rattle.std.proofs.Common.{◌≡◌, ℕ, zero, suc, ◌+◌, ◌-◌, ◌*◌, ◌<◌, ◌≤◌, List, ◌++◌, length, refl, ap₂, append_assoc, append-nil, le_refl, add-zero, zero-add, add_assoc, add-suc, suc-mul, add-one, one-add, arith, length-append}
+use Rattle.std.proofs.Common.{◌≡◌, ℕ, zero, suc, ◌+◌, ◌-◌, ◌*◌, ◌<◌, ◌≤◌, List, ◌++◌, length, refl, ap₂, append_assoc, append-nil, le_refl, add-zero, add_assoc, add-suc, suc-mul, add-one, one-add, arith, length-append}
 use Rattle.report.specs.declared.Text.{Text}
 use Rattle.report.specs.Appended.{Fits, Appended}
 use Rattle.report.proofs.Appending.{◌then◌, kept}
@@ -34,17 +34,17 @@ texts_some f t zero h some = absurd (omega arith)
 texts_some f t (suc k) h some = rw (← texts_cons f t k) (simp length-append (omega arith))
 
 -- one text more, behind those that are there
-module _ (f : ℕ → List ℕ) (n m : ℕ) where
-  pub texts_room : {a b : Text} → n < m → Fits a (texts f 0 m) → Appended a b (texts f 0 n) → Fits b (f n)
+module _ (f : ℕ → List ℕ) (i n k m : ℕ) (next : k ≡ i + n) where
+  pub texts_room : {a b : Text} → n < m → Fits a (texts f i m) → Appended a b (texts f i n) → Fits b (f k)
   unfolding texts
   texts_room {a} {b} h fits p =
       let e : suc n + (m - suc n) ≡ m = omega arith in
-      let more : length (texts f 0 n ++ f (0 + n)) ≤ length (texts f 0 m) = rw e at (texts_more f 0 (suc n) (m - suc n)) in
-      rw (← zero-add n) (record { room = omega (arith, more, length-append (texts f 0 n) (f (0 + n)), fits.room, p.written, kept p) })
+      let more : length (texts f i n ++ f (i + n)) ≤ length (texts f i m) = rw e at (texts_more f i (suc n) (m - suc n)) in
+      rw next (record { room = omega (arith, more, length-append (texts f i n) (f (i + n)), fits.room, p.written, kept p) })
 
-  pub texts_then : {a b c : Text} → m ≡ suc n → Appended a b (texts f 0 n) → Appended b c (f n) → Appended a c (texts f 0 m)
+  pub texts_then : {a b c : Text} → m ≡ suc n → Appended a b (texts f i n) → Appended b c (f k) → Appended a c (texts f i m)
   unfolding texts
-  texts_then e p q = rw (e, zero-add) (p then q)
+  texts_then e p q = rw e (p then (rw next at q))
 
 -- texts that are the same one by one
 pub texts_same : (f g : ℕ → List ℕ) (i n : ℕ) → ((k : ℕ) → k < n → f (i + k) ≡ g (i + k)) → texts f i n ≡ texts g i n

@@ -14,6 +14,10 @@ pub record Begun (m : Method) (T c : ℕ) (entry now : List ℕ) : Type 0 where
   pub few : c ≤ T
   pub bytes : now ≡ rowed m c entry
 
+-- the part of a buffer from a place on
+pub lent_room : (at w : ℕ) (now : List ℕ) → at + w ≤ length now → w ≤ length (take (length now - at) (drop at now))
+lent_room at w now h = omega (arith, length-drop at now, length-take-le (length now - at) (drop at now) (omega (arith, length-drop at now)))
+
 module _ {m : Method} {w : ℕ} (r : Regular m w) where
   pub rows_length : (n : ℕ) → length (rows m.row n) ≡ n * w
   unfolding rows
@@ -51,9 +55,8 @@ module _ {m : Method} {w : ℕ} (r : Regular m w) where
       room = omega (arith, kept, suc-mul c w, mul-le-mul_right {m = suc c} {n = T} w early)
 
       -- so in the part from its place on
-      pub lent_room : w ≤ length (take (length now - c * w) (drop (c * w) now))
-      lent_room =
-          omega (arith, room, length-drop (c * w) now, length-take-le (length now - c * w) (drop (c * w) now) (omega (arith, length-drop (c * w) now)))
+      pub row_room : w ≤ length (take (length now - c * w) (drop (c * w) now))
+      row_room = lent_room (c * w) w now room
 
       -- one row more, written into that part
       pub begun_next : (exit : List ℕ) → exit ≡ m.row c ++ drop w (take (length now - c * w) (drop (c * w) now))

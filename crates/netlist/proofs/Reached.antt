@@ -70,7 +70,7 @@ module _ {repeated : Bool} {s old : List ℕ} {signal at : ℕ} {rows : List ℕ
 
   module _ (more : signal < inputs_of s + gates_of s) where
     -- what is left once the gate's record is passed
-    abbrev after : Checked
+    abbrev pub after : Checked
     after = records_from (inputs_of s + gates_of s - (signal + 1)) (signal + 1 - inputs_of s) s (outputs s (accepted s))
 
     one_more : inputs_of s + gates_of s - signal ≡ suc (inputs_of s + gates_of s - (signal + 1))
@@ -83,7 +83,7 @@ module _ {repeated : Bool} {s old : List ℕ} {signal at : ℕ} {rows : List ℕ
     next_gate = omega (arith, r.low)
 
     -- the gate's own record is the first of what is left
-    reached_own : body s ≡ record_at s signal at after
+    pub reached_own : body s ≡ record_at s signal at after
     unfolding records_from
     reached_own = r.left ∙ rw (one_more, own, ← r.place_is, next_gate)
 

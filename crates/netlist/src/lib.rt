@@ -81,6 +81,7 @@ fn check_records(s: &[u8], rows: &mut [u16], repeated: bool) -> Result<Shape, Re
 {
     let inputs = word_at(s, 5) as usize;
     let signals = inputs + word_at(s, 7) as usize;
+    let meanings = records::meaning_table();
     let mut signal = inputs;
     let mut at: usize = 11;
     // not a `for` over the signals, which could not end with an answer
@@ -88,7 +89,7 @@ fn check_records(s: &[u8], rows: &mut [u16], repeated: bool) -> Result<Shape, Re
         if signal == signals {
             break 'records check_outputs(s, rows, at);
         }
-        if let Some(head) = records::fit_at(s, at) {
+        if let Some(head) = records::fit_at(s, &meanings, at) {
             let own = making::own_in(s, at + 2, head.count);
             if making::are_below(own, signal as u16) {
                 let row = making::row_in(s, at + 2, head.count, repeated);
@@ -98,7 +99,7 @@ fn check_records(s: &[u8], rows: &mut [u16], repeated: bool) -> Result<Shape, Re
                 continue 'records;
             }
         }
-        let head = records::head_at(s, at)?;
+        let head = records::head_at(s, &meanings, at)?;
         'pins: for k in 0..head.count {
             let place = at + 2 + 2 * k;
             if signal as u16 <= word_in(s, place) {

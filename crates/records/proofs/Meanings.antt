@@ -9,11 +9,12 @@ use lib.Dec.{eqb, leb, ltb}
 use lib.ListN.{length, get_or, get_or-eq_default}
 use denote.Bor.{Bor}
 use Rattle.std.specs.Prelude.{Option, Some, None}
+use Rattle.std.proofs.Common.{ext_get_or}
 use Rattle.std.specs.List.{slice_get}
 use Rattle.std.specs.Option.{is_some, IfSome, option_copied}
 use Rattle.std.proofs.lemmas.Option.{slice_get-get_or, get_or_from_slice_get, slice_get_read, slice_get_within, slice_get_past}
 use Rattle.kung.specs.Rule.{kind_of, kinds, BUFFER}
-use Rattle.kung.specs.Operation.{op_of, inverts, op_code}
+use Rattle.kung.specs.Operation.{Op, and, or, op_of, inverts, op_code}
 use Rattle.kung.specs.Sets.{bit}
 use Rattle.kung.specs.Tables.{tab}
 use Rattle.kung.proofs.Listed.{length_tab, get_d_tab, agree}
@@ -117,6 +118,25 @@ most_some kind = go (no_kind kind)
     go true h = absurd (h refl)
     go false h = refl
 
+-- a byte's limits are small
+pub meaning_low : (kind : ℕ) → ((meaning_of kind).least ≤ 2) × ((meaning_of kind).most ≤ 8) × ((meaning_of kind).operation ≤ 1)
+unfolding meaning_of least_pins most_pins
+meaning_low kind = go (no_kind kind) (leb kind 2) (op_of (kind_of kind))
+  where
+    go : (b d : Bool) (o : Op) → (cond b 1 (cond d 1 2) ≤ 2) × (cond b 0 (cond d 1 8) ≤ 8) × (op_code o ≤ 1)
+    go true d and = (omega arith, omega arith, omega arith)
+    go true d or = (omega arith, omega arith, omega arith)
+    go false true and = (omega arith, omega arith, omega arith)
+    go false true or = (omega arith, omega arith, omega arith)
+    go false false and = (omega arith, omega arith, omega arith)
+    go false false or = (omega arith, omega arith, omega arith)
+
+-- eight words, each of its byte, are the table
+pub table_all : (words : List ℕ) → length words ≡ 8 → ((kind : ℕ) → kind < 8 → get_or words kind 0 ≡ meaning_word (meaning_of kind)) → words ≡ meaning_table
+unfolding meaning_table
+table_all words e all =
+    ext_get_or 0 words _ (e ∙ sym (length_tab _ 0 8)) (λ k h. let l : k < 8 = omega arith in all k l ∙ sym (get_d_tab _ 8 k l))
+
 -- what is read of a list, if there is so much of it
 pub read_slot : (xs : List ℕ) (i : ℕ) (r : Option (Bor ℕ)) → is_some r ≡ ltb i (length xs) → IfSome r (λ x. x.now ≡ get_or xs i x.now)
     → option_copied r ≡ slice_get xs i
@@ -145,11 +165,11 @@ module _ (kind : ℕ) {word : ℕ} (e : slice_get meaning_table kind ≡ Some wo
   unfolding meaning_table
   word_is = sym (get_or_from_slice_get meaning_table kind word 0 e) ∙ get_d_tab _ 8 kind h
 
-  word_least : word / 16 % 16 ≡ (meaning_of kind).least
+  pub word_least : word / 16 % 16 ≡ (meaning_of kind).least
   unfolding tab meaning_word meaning_of no_kind least_pins most_pins outside kind_of
   word_least = rw word_is (agree (λ k. meaning_word (meaning_of k) / 16 % 16) (λ k. (meaning_of k).least) 8 refl kind h)
 
-  word_most : word / 256 ≡ (meaning_of kind).most
+  pub word_most : word / 256 ≡ (meaning_of kind).most
   unfolding tab meaning_word meaning_of no_kind least_pins most_pins outside kind_of
   word_most = rw word_is (agree (λ k. meaning_word (meaning_of k) / 256) (λ k. (meaning_of k).most) 8 refl kind h)
 

@@ -1,12 +1,13 @@
 // A netlist's records, one by one: what a kind byte means, and what is read of a record up to its pins.
 #![tactic(auto)]
 
-ghost use Rattle.std.specs.Prelude.{◌≡◌, ◌+◌, ◌≤◌, length, slice_get};
+ghost use Rattle.std.specs.Prelude.{◌≡◌, ◌+◌, ◌≤◌, ◌<◌, length, slice_get};
 ghost use Rattle.records.specs.Records.{unfit};
-ghost use Rattle.records.specs.Meaning.{meaning_of, meaning_table};
+ghost use Rattle.records.specs.Meaning.{meaning_of, meaning_word, meaning_table};
 ghost use Rattle.records.specs.Reading.{head_at, fit_at};
 
 use refusals::Refusal;
+use std::array;
 use words::is_outside;
 
 // What a kind byte means: how many pins it takes, its operation (0 AND, 1 OR) and whether it inverts. A byte that is no kind has limits
@@ -60,34 +61,38 @@ pub fn is_unfit(kind: u8, count: usize) -> bool
     is_outside(meaning.least, meaning.most, count)
 }
 
-// A meaning in one word: the operation, 2 more where it inverts, 16 times the least and 256 times the most pins.
-const OR: u16 = 1;
+// A meaning in one word.
+fn meaning_word(meaning: Meaning) -> u16
+    requires { (meaning.least ≤ 2) × (meaning.most ≤ 8) × (meaning.operation ≤ 1) }
+    ensures { result ≡ meaning_word meaning }
+{
+    meaning.operation as u16
+        + 2 * (meaning.inverts as u16)
+        + 16 * (meaning.least as u16)
+        + 256 * (meaning.most as u16)
+}
 
-const INVERTS: u16 = 2;
+// What a byte means, in one word.
+fn byte_word(kind: usize) -> u16
+    requires { kind < 8 }
+    ensures { result ≡ meaning_word (meaning_of kind) }
+{
+    meaning_word(meaning_of(kind as u8))
+}
 
-const ONE_PIN: u16 = 16 + 256;
+// The words of the bytes 0 to 7, made once for a check: in its loop no jump depends on a kind.
+pub fn meaning_table() -> [u16; 8]
+    ensures { result ≡ meaning_table }
+{
+    array::from_fn(|kind| byte_word(kind))
+}
 
-const TWO_TO_EIGHT: u16 = 2 * 16 + 8 * 256;
-
-const NO_KIND: u16 = 16;
-
-// The words of the bytes 0 to 7: in the check's loop no jump depends on a kind.
-static MEANINGS: [u16; 8] = [
-    NO_KIND,
-    INVERTS + ONE_PIN,
-    ONE_PIN,
-    TWO_TO_EIGHT,
-    OR + TWO_TO_EIGHT,
-    INVERTS + TWO_TO_EIGHT,
-    OR + INVERTS + TWO_TO_EIGHT,
-    NO_KIND,
-];
-
-// What a kind byte means in one word.
-fn meaning_word(kind: u8) -> Option<u16>
+// The word of a kind byte.
+fn kind_word(meanings: &[u16; 8], kind: u8) -> Option<u16>
+    requires { meanings.now ≡ meaning_table }
     ensures { result ≡ slice_get meaning_table kind }
 {
-    MEANINGS.get(kind as usize).copied()
+    meanings.get(kind as usize).copied()
 }
 
 // A record up to its pins: how many there are, and its gate's word.
@@ -98,8 +103,8 @@ pub struct Head {
 }
 
 #[tactic(auto, using(crate::proofs::Heads::told), unfolding(crate::specs::Reading::head_at, refusals::specs::Refusal::refuse))]
-pub fn head_at(s: &[u8], at: usize) -> Result<Head, Refusal>
-    requires { at ≤ length s.now + 11 }
+pub fn head_at(s: &[u8], meanings: &[u16; 8], at: usize) -> Result<Head, Refusal>
+    requires { (meanings.now ≡ meaning_table) × (at ≤ length s.now + 11) }
     ensures { result ≡ head_at s.now at }
 {
     if s.len() < at + 2 {
@@ -107,7 +112,7 @@ pub fn head_at(s: &[u8], at: usize) -> Result<Head, Refusal>
     }
     let second = at + 1;
     let count = s[second] as usize;
-    let Some(meaning) = meaning_word(s[at]) else {
+    let Some(meaning) = kind_word(meanings, s[at]) else {
         return Err(Refusal::Kind(at));
     };
     if meaning < 256 {
@@ -131,15 +136,15 @@ pub fn head_at(s: &[u8], at: usize) -> Result<Head, Refusal>
 
 // A record behind whose head eight words have room, where its head is not refused.
 #[tactic(auto, using(crate::proofs::Heads::fits), unfolding(crate::specs::Reading::fit_at))]
-pub fn fit_at(s: &[u8], at: usize) -> Option<Head>
-    requires { at ≤ length s.now + 11 }
+pub fn fit_at(s: &[u8], meanings: &[u16; 8], at: usize) -> Option<Head>
+    requires { (meanings.now ≡ meaning_table) × (at ≤ length s.now + 11) }
     ensures { result ≡ fit_at s.now at }
 {
     if s.len() < at + 18 {
         return None;
     }
     let count = s[at + 1] as usize;
-    let meaning = meaning_word(s[at])? as usize;
+    let meaning = kind_word(meanings, s[at])? as usize;
     if is_outside(meaning / 16 % 16, meaning / 256, count) {
         return None;
     }

@@ -10,11 +10,11 @@ use Rattle.report.specs.Text.{line, counts_line, verdict_word, verdict_line, ref
 use Rattle.report.proofs.Decimal.{decimal_length}
 
 -- a line's length, word by word
-abbrev total : List ℕ → List (List ℕ) → ℕ
+abbrev pub total : List ℕ → List (List ℕ) → ℕ
 total word [] = length (word ++ (10 ∷ []))
 total word (next ∷ rest) = length (word ++ (32 ∷ [])) + total next rest
 
-line_length : (word : List ℕ) (rest : List (List ℕ)) → length (line word rest) ≡ total word rest
+pub line_length : (word : List ℕ) (rest : List (List ℕ)) → length (line word rest) ≡ total word rest
 unfolding line
 line_length word [] = refl
 line_length word (next ∷ rest) = simp length-append (omega (arith, line_length next rest))

@@ -1,4 +1,5 @@
 pub mod Appending
 pub mod Lengths
+pub mod Placing
 mod Decimal
 mod Cases

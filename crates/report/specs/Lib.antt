@@ -1,3 +1,4 @@
 pub mod Text
 pub mod Appended
 pub mod Lines
+pub mod Placed

@@ -1,10 +1,11 @@
 // The program's lines, appended to a text in a lent buffer.
 #![tactic(auto)]
 
-ghost use Rattle.std.specs.Prelude.{◌≡◌, [], ◌∷◌, ◌++◌, ◌-◌, ◌≤◌, length};
+ghost use Rattle.std.specs.Prelude.{◌≡◌, [], ◌∷◌, ◌++◌, ◌+◌, ◌-◌, ◌≤◌, length};
 ghost use Rattle.kung.specs.Class.{of_code, name_of};
 ghost use Rattle.report.specs.Text.{decimal, counts_line, verdict_word, refusal_line};
 ghost use Rattle.report.specs.Lines.{text_of};
+ghost use Rattle.report.specs.Placed.{Placed};
 
 // A text at the start of a lent buffer, and how long it is.
 #[derive(Drop)]
@@ -42,11 +43,18 @@ fn name(class: u8) -> &'static [u8]
     }
 }
 
-#[tactic(auto, unfolding(crate::specs::Text::verdict_word))]
-fn judgement(clean: bool) -> &'static [u8]
-    ensures { result.now ≡ verdict_word clean }
+// A number's digits at a place of a buffer, and the place after them: a text would read and write its length again at each digit.
+fn put_digits(bytes: &mut [u8], at: usize, n: usize) -> usize
+    requires { at + length (decimal n) ≤ length bytes.old }
+    ensures { Placed bytes.old bytes.new at result (decimal n) }
 {
-    if clean { b"clean" } else { b"hazard" }
+    if n < 10 {
+        bytes[at] = b'0' + n as u8;
+        return at + 1;
+    }
+    let last = put_digits(bytes, at, n / 10);
+    bytes[last] = b'0' + (n % 10) as u8;
+    last + 1
 }
 
 impl<'a> Text<'a> {
@@ -84,10 +92,7 @@ impl<'a> Text<'a> {
         requires { Fits self.old (decimal n) }
         ensures { Appended self.old self.new (decimal n) }
     {
-        if 10 <= n {
-            self.put_decimal(n / 10);
-        }
-        self.put_byte(b'0' + (n % 10) as u8);
+        self.written = put_digits(self.bytes, self.written, n);
     }
 
     // A number, and the blank or line feed after it.
@@ -108,6 +113,18 @@ impl<'a> Text<'a> {
             self.put_byte(*byte);
         }
         self.put_byte(end);
+    }
+
+    // By two calls: the length of each word is known where it is written, so that none is copied by a call.
+    fn put_judgement(&mut self, clean: bool)
+        requires { Fits self.old (verdict_word clean ++ (32 ∷ [])) }
+        ensures { Appended self.old self.new (verdict_word clean ++ (32 ∷ [])) }
+    {
+        if clean {
+            self.put_word(b"clean", b' ');
+        } else {
+            self.put_word(b"hazard", b' ');
+        }
     }
 
     pub fn put_counts(&mut self, inputs: usize, gates: usize, outputs: usize, changes: usize)
@@ -131,7 +148,7 @@ impl<'a> Text<'a> {
         self.put_number(line.change, b' ');
         self.put_number(line.output, b' ');
         self.put_word(name(line.class), b' ');
-        self.put_word(judgement(line.clean), b' ');
+        self.put_judgement(line.clean);
         self.put_number(line.gates, b' ');
         self.put_number(line.pins, b'\n');
     }

@@ -6,7 +6,7 @@ use Prim.Native.Nat.{ℕ, zero, suc, ◌+◌, ◌-◌, ◌*◌, ◌^◌, ◌≤�
 use native.Mathlib.Omega.{arith}
 use native.Mathlib.Decide.{dec_lt}
 use native.Mathlib.Nat.{add-zero, zero-mul, one-mul, add-mul, suc-mul, div-eq_of_lt, div-eq-sub-div}
-use mathlib.Core.Path.{◌≡◌, refl}
+use mathlib.Core.Path.{◌≡◌, refl, sym}
 use mathlib.Core.List.{List}
 use borrow.Author.Tests.{lt-ltb, le-leb, lt-leb}
 use lib.Pow.{pow_pos}
@@ -48,6 +48,17 @@ module _ (bits : ℕ) (l : List ℕ) (at : ℕ) where
   pub pair_none : PairClear bits l at → spare_pair bits l at ≡ None
   unfolding spare_pair
   pair_none clear = rw (clear_at bits l at clear.0) (clear_at bits l (at + width_of bits) clear.1)
+
+  -- by the bytes that the code reads
+  module _ (least : ℕ) (e : least ≡ 2 ^ last_bits bits) where
+    pub pair_first : least ≤ byte_at l (last_place bits at) → spare_pair bits l at ≡ Some (last_place bits at)
+    unfolding spare_pair
+    pair_first h = rw (some_at bits l at least e h)
+
+    pub pair_second : byte_at l (last_place bits at) < least
+        → spare_pair bits l at ≡ then_some (leb least (byte_at l (last_place bits (at + width_of bits)))) (last_place bits (at + width_of bits))
+    unfolding spare_pair
+    pair_second h = rw (none_at bits l at least e h) (sym (spare_by bits l (at + width_of bits) least e))
 
   -- where a last byte has eight bits of its own none is spare
   pub eight_clear : last_bits bits ≡ 8 → ((at : ℕ) → byte_at l at < 256) → PairClear bits l at

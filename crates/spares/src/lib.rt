@@ -2,7 +2,7 @@
 #![tactic(auto)]
 
 ghost use Rattle.std.specs.Prelude.{◌≡◌, ◌+◌, ◌*◌, ◌^◌, ◌≤◌, ◌<◌, length};
-ghost use Rattle.spares.specs.Spares.{width_of, size_of, spare_at, spare_pair, first_spare};
+ghost use Rattle.spares.specs.Spares.{width_of, size_of, spare_pair, first_spare};
 ghost use Rattle.spares.specs.Looked.{Cleared};
 
 // The least byte with a bit past its first `used`.
@@ -13,24 +13,25 @@ fn byte_past(used: usize) -> usize
     1 << used
 }
 
-// The last byte of the vector or row of so many bits at a place, where it has a spare bit.
-fn spare_at(list: &[u8], at: usize, bits: usize) -> Option<usize>
-    requires { (1 ≤ at) × (bits ≤ 256) × (at + width_of bits ≤ length list.now) }
-    ensures { result ≡ spare_at bits list.now at }
+// The first byte with a spare bit of two vectors or rows of so many bits from a place on.
+fn spare_in(list: &[u8], at: usize, bits: usize) -> Option<usize>
+    requires { (11 ≤ at) × (bits ≤ 256) × (at + 2 * width_of bits ≤ length list.now) }
+    ensures { result ≡ spare_pair bits list.now at }
 {
     // here and below not `div_ceil`: tried, each answer on a width then needs an equation more
     let width = (bits + 7) / 8;
-    let last = at + width - 1;
-    let least = byte_past(bits + 8 - 8 * width);
-    (least <= list[last] as usize).then_some(last)
-}
-
-// The first byte with a spare bit of two vectors or rows of so many bits from a place on.
-fn spare_in(list: &[u8], at: usize, bits: usize) -> Option<usize>
-    requires { (1 ≤ at) × (bits ≤ 256) × (at + 2 * width_of bits ≤ length list.now) }
-    ensures { result ≡ spare_pair bits list.now at }
-{
-    spare_at(list, at, bits).or(spare_at(list, at + (bits + 7) / 8, bits))
+    // the bits in the last byte
+    let used = bits + 8 - 8 * width;
+    if used == 8 {
+        return None;
+    }
+    let least = byte_past(used);
+    let first = at + width - 1;
+    if least <= list[first] as usize {
+        return Some(first);
+    }
+    let second = at + width + width - 1;
+    (least <= list[second] as usize).then_some(second)
 }
 
 // Whether two vectors or rows of so many bits, from a place on and in each change again, may have a spare bit. Their last bytes are united, and looked

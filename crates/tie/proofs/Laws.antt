@@ -54,7 +54,7 @@ pub sum_more : (n : ℕ) (s : List ℕ) (k p : ℕ) → k < n → sum_at (n - k)
 unfolding sum_at
 sum_more n s k p h = let e : n - k ≡ suc (n - (k + 1)) = omega arith in rw e
 
-weight_more : (n : ℕ) (s : List ℕ) (at k : ℕ) → k < n → weight_at (n - k) s (at + k) ≡ (n - k) * byte_at s (at + k) + weight_at (n - (k + 1)) s (at + (k + 1))
+pub weight_more : (n : ℕ) (s : List ℕ) (at k : ℕ) → k < n → weight_at (n - k) s (at + k) ≡ (n - k) * byte_at s (at + k) + weight_at (n - (k + 1)) s (at + (k + 1))
 unfolding weight_at
 weight_more n s at k h =
     let e : n - k ≡ suc (n - (k + 1)) = omega arith in

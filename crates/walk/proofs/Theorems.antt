@@ -1,10 +1,13 @@
--- A walk of an accepted netlist hands back its records in order, and a refused netlist opens none. Assumes nothing.
-use Rattle.std.specs.Prelude.{Some, None, Ok, Err}
-use Prim.Native.Nat.{ℕ, zero, suc, ◌+◌, ◌≤◌, ◌<◌}
+-- A walk of an accepted netlist hands back its records in order, and a refused netlist opens none; no byte is the answer of a step that gives
+-- none, and no other. Assumes nothing.
+use Rattle.std.specs.Prelude.{Option, Some, None, Ok, Err}
+use Prim.Native.Nat.{ℕ, zero, suc, ◌+◌, ◌-◌, ◌≤◌, ◌<◌}
 use native.Mathlib.Omega.{arith}
 use native.Mathlib.Numerals.{add-one}
 use mathlib.Core.Path.{◌≡◌, refl, sym, ◌∙◌, ap}
 use mathlib.Core.List.{List}
+use lib.ListN.{drop, length-drop}
+use lib.Seq.{length-take-le}
 use denote.Ref.{Bor}
 use Rattle.refusals.specs.declared.Refusal.{Refusal}
 use Rattle.netlist.specs.declared.Shape.{Shape}
@@ -12,8 +15,8 @@ use Rattle.netlist.specs.Netlist.{gates_of, place_of, checked}
 use Rattle.netlist.specs.Formed.{Formed}
 use Rattle.netlist.proofs.Accepted.{formed}
 use Rattle.walk.specs.declared.Walk.{Walk}
-use Rattle.walk.specs.Walk.{part, found, handed, stepped, walk_at, walk_of, opened, after, HandsBack}
-use Rattle.walk.proofs.Laws.{whole_formed, found_none, found_record}
+use Rattle.walk.specs.Walk.{part, found, handed, stepped, walk_at, walk_of, opened, size_of, after, HandsBack}
+use Rattle.walk.proofs.Laws.{whole_formed, whole_room, found_none, found_record, record_found}
 
 -- what a step does, by what it finds
 module _ (w : Walk) where
@@ -24,9 +27,19 @@ module _ (w : Walk) where
   pub none : found w ≡ None → (handed w ≡ None) × (stepped w ≡ w)
   none e = (rw e, rw e)
 
-  -- a step that hands back none has found none
-  pub empty_none : handed w ≡ None → found w ≡ None
-  empty_none h = grind arith
+  -- a record has bytes, so a step that hands back none, or a part without any, has found none
+  pub empty_none : size_of (handed w) ≡ 0 → found w ≡ None
+  empty_none h = go (found w) refl
+    where
+      go : (f : Option ℕ) → found w ≡ f → f ≡ None
+      go (Some past) e =
+          let r = record_found w.netlist.now w.place w.number w.count past e in
+          let room = whole_room w.netlist.now w.place r.1 in
+          let d = length-drop w.place w.netlist.now in
+          let long = length-take-le (past - w.place) (drop w.place w.netlist.now) (omega (arith, r.2, room, d)) in
+          let empty = ap size_of (sym (finds past e).0) ∙ h in
+          absurd (omega (arith, r.2, long, empty))
+      go None e = refl
 
 module _ (s : Bor (List ℕ)) {shape : Shape} (accepted : checked s.now ≡ Ok shape) where
   form : Formed s.now shape

@@ -1,4 +1,4 @@
-use Rattle.std.proofs.Common.{◌≡◌, ℕ, ◌+◌, List, get_or, eqb, sym, refl, ap, ◌∙◌, subst, add-one, arith}
+use Rattle.std.proofs.Common.{◌≡◌, ℕ, ◌+◌, List, get_or, eqb, sym, refl, ap, ◌∙◌, subst, zero-add, add-one, arith}
 use Rattle.changes.specs.Lent.{signals_of}
 use Rattle.outputs.specs.Codes.{found_byte}
 use Rattle.outputs.proofs.Outputs.{found_is, byte_code}
@@ -52,7 +52,7 @@ unfolding text_from
 put_verdict-requires c =
     let k = (goal.at.put_verdict-requires c).After-byte_of in
     subst (λ line. Fits c.loop-output.text (text_of line)) (sym (made_is k))
-    (texts_room (texts_of k) c.loop-output.output c.args.shape.outputs c.loop-output-test.true c.requires.fits c.loop-output.invariant.lines)
+    (texts_room (texts_of k) 0 c.loop-output.output c.loop-output.output c.args.shape.outputs (sym (zero-add _)) c.loop-output-test.true c.requires.fits c.loop-output.invariant.lines)
 
 pub loop-output-preserved : goal.loop-output-preserved
 unfolding text_from
@@ -60,7 +60,7 @@ loop-output-preserved c =
     let k = (goal.at.loop-output-preserved c).After-byte_of in
     record {
       lines =
-          texts_then (texts_of k) c.loop-output.output (c.loop-output.output + 1) (add-one _) c.loop-output.invariant.lines
+          texts_then (texts_of k) 0 c.loop-output.output c.loop-output.output (c.loop-output.output + 1) (sym (zero-add _)) (add-one _) c.loop-output.invariant.lines
           (subst (λ line. Appended c.loop-output.text c.put_verdict.new.self (text_of line)) (made_is k) c.put_verdict.ensures);
       known = c.find-found.ensures.known ∙ c.loop-output.invariant.known;
     }

@@ -89,7 +89,7 @@ pub search_outputs-searched-requires : goal.search_outputs-searched-requires
 search_outputs-searched-requires c =
     let a = c.args.job.accepts in
     searchable _ _ _ _ a c.loop-change.change _ (known (goal.at.search_outputs-searched-requires c).After-fill_inputs) _
-    (loop.lent_room (core_regular_for c.args.job) c.requires.buffer_in_bounds c.loop-change.invariant.rows c.loop-change-test.true)
+    (loop.row_room (core_regular_for c.args.job) c.requires.buffer_in_bounds c.loop-change.invariant.rows c.loop-change-test.true)
 
 pub overflow_add-visited : goal.overflow_add-visited
 overflow_add-visited c =

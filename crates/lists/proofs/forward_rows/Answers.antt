@@ -107,7 +107,7 @@ search_outputs-searched-requires c =
     let a = c.args.job.accepts in
     let k = goal.at.search_outputs-searched-requires c in
     changes.searchable _ _ _ _ a c.loop-change.change _ (told k.At-loop-change) _ (known k.After-spread-touched) _
-    (loop.lent_room (forward_regular_for c.args.job) c.requires.buffer_in_bounds c.loop-change.invariant.rows c.loop-change-test.true)
+    (loop.row_room (forward_regular_for c.args.job) c.requires.buffer_in_bounds c.loop-change.invariant.rows c.loop-change-test.true)
 
 pub overflow_add-visited : goal.overflow_add-visited
 overflow_add-visited c =

@@ -38,12 +38,12 @@ slice_bounds-row-start c = omega (arith, room (goal.at.slice_bounds-row-start c)
 pub fill_inputs-requires : goal.fill_inputs-requires
 fill_inputs-requires c =
     fillable c.args.job.accepts c.loop-change-test.true
-    (loop.lent_room (full_regular_for c.args.job) c.requires.buffer_in_bounds c.loop-change.invariant.rows c.loop-change-test.true)
+    (loop.row_room (full_regular_for c.args.job) c.requires.buffer_in_bounds c.loop-change.invariant.rows c.loop-change-test.true)
 
 pub pass-requires : goal.pass-requires
 pass-requires c =
     filled_passable _ _ _ _ c.args.job.accepts _ _ _ c.fill_inputs.ensures _
-    (loop.lent_room (full_regular_for c.args.job) c.requires.buffer_in_bounds c.loop-change.invariant.rows c.loop-change-test.true)
+    (loop.row_room (full_regular_for c.args.job) c.requires.buffer_in_bounds c.loop-change.invariant.rows c.loop-change-test.true)
     (omega (arith, c.requires.shape_in_bounds, c.loop-change.invariant.hot_kept))
 
 pub loop-change-preserved : goal.loop-change-preserved

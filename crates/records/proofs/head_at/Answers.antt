@@ -11,17 +11,17 @@ use Rattle.records.proofs.head_at.Goals as goal
 pub returns-then-is_outside : goal.returns-then-is_outside
 unfolding head_at refuse
 returns-then-is_outside c =
-    let known = word_some _ (sym c.meaning_word.ensures ∙ c.in-Some.is) (count_at c.args.s.now c.args.at) c.if-meaning-lt256.false in
+    let known = word_some _ (sym c.kind_word.ensures ∙ c.in-Some.is) (count_at c.args.s.now c.args.at) c.if-meaning-lt256.false in
     grind (arith, told)
 
 pub returns-then-s-at-2 : goal.returns-then-s-at-2
 unfolding head_at refuse
 returns-then-s-at-2 c =
-    let known = word_some _ (sym c.meaning_word.ensures ∙ c.in-Some.is) (count_at c.args.s.now c.args.at) c.if-meaning-lt256.false in
+    let known = word_some _ (sym c.kind_word.ensures ∙ c.in-Some.is) (count_at c.args.s.now c.args.at) c.if-meaning-lt256.false in
     grind (arith, told)
 
 pub returns : goal.returns
 unfolding head_at refuse
 returns c =
-    let known = word_some _ (sym c.meaning_word.ensures ∙ c.in-Some.is) (count_at c.args.s.now c.args.at) c.if-meaning-lt256.false in
+    let known = word_some _ (sym c.kind_word.ensures ∙ c.in-Some.is) (count_at c.args.s.now c.args.at) c.if-meaning-lt256.false in
     grind (arith, told)

@@ -19,15 +19,15 @@ put_number-requires-2 c = next_word (fits (goal.at.put_number-requires-2 c).Star
 pub put_word-requires : goal.put_word-requires
 put_word-requires c = rw c.name.ensures (next_word (fits (goal.at.put_word-requires c).Start past c.put_number.ensures past c.put_number-2.ensures))
 
-pub put_word-requires-2 : goal.put_word-requires-2
-put_word-requires-2 c = rw c.judgement.ensures (next_word (fits (goal.at.put_word-requires-2 c).Start past c.put_number.ensures past c.put_number-2.ensures past (rw c.name.ensures at c.put_word.ensures)))
+pub put_judgement-requires : goal.put_judgement-requires
+put_judgement-requires c = next_word (fits (goal.at.put_judgement-requires c).Start past c.put_number.ensures past c.put_number-2.ensures past (rw c.name.ensures at c.put_word.ensures))
 
 pub put_number-requires-3 : goal.put_number-requires-3
-put_number-requires-3 c = next_word (fits (goal.at.put_number-requires-3 c).Start past c.put_number.ensures past c.put_number-2.ensures past (rw c.name.ensures at c.put_word.ensures) past (rw c.judgement.ensures at c.put_word-2.ensures))
+put_number-requires-3 c = next_word (fits (goal.at.put_number-requires-3 c).Start past c.put_number.ensures past c.put_number-2.ensures past (rw c.name.ensures at c.put_word.ensures) past c.put_judgement.ensures)
 
 pub put_number-requires-4 : goal.put_number-requires-4
-put_number-requires-4 c = last_word (fits (goal.at.put_number-requires-4 c).Start past c.put_number.ensures past c.put_number-2.ensures past (rw c.name.ensures at c.put_word.ensures) past (rw c.judgement.ensures at c.put_word-2.ensures) past c.put_number-3.ensures)
+put_number-requires-4 c = last_word (fits (goal.at.put_number-requires-4 c).Start past c.put_number.ensures past c.put_number-2.ensures past (rw c.name.ensures at c.put_word.ensures) past c.put_judgement.ensures past c.put_number-3.ensures)
 
 pub returns : goal.returns
 unfolding line verdict_line
-returns c = simp append_assoc at (c.put_number.ensures then c.put_number-2.ensures then (rw c.name.ensures at c.put_word.ensures) then (rw c.judgement.ensures at c.put_word-2.ensures) then c.put_number-3.ensures then c.put_number-4.ensures)
+returns c = simp append_assoc at (c.put_number.ensures then c.put_number-2.ensures then (rw c.name.ensures at c.put_word.ensures) then c.put_judgement.ensures then c.put_number-3.ensures then c.put_number-4.ensures)
