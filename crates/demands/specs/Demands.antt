@@ -188,7 +188,7 @@ pub record Step (w : Walk) : Type 0 where
       → stepped w ≡ record { netlist = w.netlist; number = w.number + 1; place = past_record w.netlist.now w.place; count = w.count }
   -- "a step that gives none leaves the walk unchanged"
   pub stays : GivesNone w → stepped w ≡ w
-  -- in numbers it hands back "0 for none", and 0 for nothing else
+  -- include/lane.h, of the length that a step answers: "0 for none"; and 0 for nothing else
   pub none_by_length : GivesNone w ↔ ((step_of w).length ≡ 0)
 
 pub record Demand1 : Type 0 where
